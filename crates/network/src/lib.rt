@@ -1,0 +1,36 @@
+//! The words of the subject: costs, weights, choices, segments, steps and faults.
+mod cost;
+mod costs;
+mod weight;
+mod weighted;
+mod way;
+mod ways;
+mod size;
+mod sizes;
+mod choice;
+mod choosing;
+mod record;
+mod checking;
+mod segment;
+mod segments;
+mod step;
+mod fault;
+mod numbering;
+mod display;
+
+pub use cost::Cost;
+pub use weight::Weight;
+pub use weighted::weighted_cost;
+pub use way::Ray;
+pub use way::Way;
+pub use size::Size;
+pub use choice::Choice;
+pub use record::Record;
+pub use segment::Segment;
+pub use step::Step;
+pub use display::FaultDisplay;
+pub use display::PlaceDisplay;
+pub use display::StageDisplay;
+pub use fault::Fault;
+pub use fault::Place;
+pub use fault::Stage;

@@ -1,0 +1,3 @@
+pub mod FirstLetters
+pub mod Gathers
+pub mod Rows

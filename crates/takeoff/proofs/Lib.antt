@@ -1,0 +1,12 @@
+pub mod Cutting
+pub mod Lengths
+pub mod Spelling
+pub mod Decoding
+pub mod Sequence
+pub mod Growth
+pub mod Injective
+pub mod Refusals
+pub mod SameFault
+pub mod Unique
+pub mod Halting
+pub mod Reading
