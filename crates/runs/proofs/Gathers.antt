@@ -1,11 +1,14 @@
 -- What a node gathers, segment by segment. Assumes nothing.
 use mathlib.Core.Path.{_≡_, refl, sym, ap, _∙_, subst}
 use mathlib.Core.List.{List, [], _∷_, map}
-use mathlib.Core.Logic.{_≢_}
+use mathlib.Core.Bool.{true, false}
+use mathlib.Core.Logic.{_⊎_, inl, inr, _≢_}
 use Prim.Native.Nat.{ℕ, zero, suc, _+_, _≤_, _<_}
 use native.Mathlib.Omega.{arith}
 use borrow.Author.Count.{below-more}
+use lib.Dec.{eqb}
 use lib.ListN.{length, getD}
+use Rattle.std.proofs.shelf.Ways.{eqb-tells}
 use Rattle.std.specs.declared.option.Option.the-variants.{Some, None}
 use Rattle.std.specs.declared.result.Result.the-variants.{Ok, Err}
 use Rattle.network.specs.declared.fault.Stage.{Stage}
@@ -46,11 +49,13 @@ module _ {A : Algebra} (laws : Semiring A) {N : Network} (ruled : Ruled N) (s v 
   abbrev Fit : ℕ → Type 0
   Fit f = (a : Arc) → at N f ≡ Some a → a .head ≡ v → SegmentFits A N s v f a
 
-  pub begin-one : {x : A .Carrier} → x ≡ A .one → v ≡ s → Upto A N s v 0 x
-  begin-one e h = (e ∙ sym (gathered-one laws N s v h), λ f l. absurd (omega arith))
-
-  pub begin-zero : {x : A .Carrier} → x ≡ A .zero → v ≢ s → Upto A N s v 0 x
-  begin-zero e h = (e ∙ sym (gathered-zero laws N s v h), λ f l. absurd (omega arith))
+  -- one at the start, zero elsewhere
+  pub begin : {x : A .Carrier} → (v ≡ s → x ≡ A .one) → ((v ≡ s → ⊥) → x ≡ A .zero) → Upto A N s v 0 x
+  begin {x = x} at-start elsewhere = (by-start (eqb-tells v s), λ f l. absurd (omega arith))
+    where
+      by-start : ((eqb v s ≡ true) × (v ≡ s)) ⊎ ((eqb v s ≡ false) × (v ≡ s → ⊥)) → x ≡ gathered A N s v 0
+      by-start (inl h) = at-start (h .1) ∙ sym (gathered-one laws N s v (h .1))
+      by-start (inr h) = elsewhere (h .1) ∙ sym (gathered-zero laws N s v (h .1))
 
   pub pass-none : {x : A .Carrier} (e : ℕ) → e < length (N .arcs) → None ≡ at N e → Upto A N s v e x → Upto A N s v (e + 1) x
   pass-none e l h u =

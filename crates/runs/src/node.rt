@@ -1,4 +1,5 @@
 //! One node of a run.
+ghost use mathlib.Core.Path.{_≡_};
 ghost use Prim.Native.Nat.{_≤_};
 ghost use lib.ListN.{length};
 ghost use Rattle.runs.specs.Runs.{NodeAnswer};
@@ -8,12 +9,20 @@ use kinds::Kind;
 use network::Fault;
 use sources::Source;
 
+/// What a node begins with: one at the start, zero elsewhere.
+fn beginning<K: Kind>(kind: &K, start: usize, v: usize) -> K::Value
+    ensures at_start { λ r. ⌜ (v ≡ start → K·Kind .means (now (kind .entry)) r ≡ K·Kind .ring (now (kind .entry)) .one) ⌝ }
+    ensures elsewhere { λ r. ⌜ ((v ≡ start → ⊥) → K·Kind .means (now (kind .entry)) r ≡ K·Kind .ring (now (kind .entry)) .zero) ⌝ }
+{
+    if v == start { kind.one() } else { kind.zero() }
+}
+
 /// What node `v` gathers from the segments into it, in number order.
 fn gather<K: Kind, S: Source>(kind: &K, source: &S, start: usize, v: usize, held: &[K::Value]) -> Result<K::Value, Fault>
     requires { ⌜ v ≤ length (now held) ⌝ }
     ensures { λ r. ⌜ Gathers (K·Kind .ring (now (kind .entry))) (K·Kind .means (now (kind .entry))) (S·Source .network (now (source .entry))) start v (now (held .entry)) r ⌝ }
 {
-    let mut sum = if v == start { kind.one() } else { kind.zero() };
+    let mut sum = beginning(kind, start, v);
     for e in 0..source.segments() {
         if let Some(segment) = source.segment(e) {
             if segment.listed.head == v {

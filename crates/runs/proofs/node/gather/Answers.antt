@@ -3,18 +3,13 @@ use native.Mathlib.Omega.{arith}
 use Prim.Native.Nat.{_<_}
 use lib.ListN.{length}
 use Rattle.network.specs.Networks.{segment-arc}
-use Rattle.runs.proofs.Gathers.{begin-one, begin-zero, pass-none, pass-other, taken, stops, finish, read-means, rising, moved, joined-value}
+use Rattle.runs.proofs.Gathers.{begin, pass-none, pass-other, taken, stops, finish, read-means, rising, moved, joined-value}
 use Rattle.runs.proofs.node.gather.Needs as need
-use Rattle.runs.proofs.node.gather.Needs.{then-v-start, else-v-start, in-Some·then-segment-v·in-Ok, in-Some·else-segment-v, in-rest}
+use Rattle.runs.proofs.node.gather.Needs.{in-Some·then-segment-v·in-Ok, in-Some·else-segment-v, in-rest}
 
 pub loop-e-holds : need.loop-e-holds
-loop-e-holds g c =
-    let laws = g .K·Kind·met .lawful (c .args .kind .now) in
-    let ruled = g .S·Source .ruled (c .args .source .now) in
-    let means = g .K·Kind .means (c .args .kind .now) in
-    λ _. elim (c .if-v-start .came) [
-      then-v-start w ↦ begin-one laws ruled _ _ (ap means (w .sum-is) ∙ w .one-sum .ensures) (w .if-v-start .taken)
-    | else-v-start w ↦ begin-zero laws ruled _ _ (ap means (w .sum-is) ∙ w .zero-sum .ensures) (w .if-v-start .left) ]
+loop-e-holds g c = λ _.
+    begin (g .K·Kind·met .lawful (c .args .kind .now)) (g .S·Source .ruled (c .args .source .now)) (c .args .start) (c .args .v) (c .beginning-sum .ensures .at-start) (c .beginning-sum .ensures .elsewhere)
 
 pub offset-held-segment : need.offset-held-segment
 offset-held-segment g c =
