@@ -2,7 +2,7 @@
 
 /// The stages at which a run takes a segment into account: its letters are joined, the tail's value is
 /// chained with that, and the result is joined to what the node has gathered.
-#[derive(Clone, Copy, PartialEq, Eq, Debug)]
+#[derive(Clone, Copy)]
 pub enum Stage {
     Choices,
     Chain,
@@ -10,14 +10,14 @@ pub enum Stage {
 }
 
 /// Where a fault is: a byte or a record by its number, or an operation of a run.
-#[derive(Clone, Copy, PartialEq, Eq, Debug)]
+#[derive(Clone, Copy)]
 pub enum Place {
     At(usize),
     During(usize, usize, Stage),
 }
 
 /// A fault: what is wrong, and where. A case with a number has it as its place.
-#[derive(Clone, Copy, PartialEq, Eq, Debug)]
+#[derive(Clone, Copy)]
 pub enum Fault {
     CutShort(usize),
     UnknownTag(usize),
