@@ -1,0 +1,4 @@
+pub mod Closings
+pub mod ClosingRules
+pub mod ClosedRoutes
+pub mod Shutting

@@ -1,0 +1,9 @@
+pub mod Plane
+pub mod Polygons
+pub mod Support
+pub mod Sums
+pub mod Walks
+pub mod Cones
+pub mod Exposed
+pub mod Steps
+pub mod Theorems
