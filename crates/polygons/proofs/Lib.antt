@@ -1,0 +1,9 @@
+pub mod Rounding
+pub mod Ways
+pub mod Reading
+pub mod Corners
+pub mod Unions
+pub mod Summation
+pub mod HullLaws
+pub mod Asking
+pub mod Wrapping
