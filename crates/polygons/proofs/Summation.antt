@@ -5,7 +5,9 @@ use mathlib.Core.Path.{_≡_, sym, ap, ap₂, subst, subst₂, _∙_}
 use mathlib.Core.List.{List, [], _∷_, _++_}
 use lib.ListN.{length, getD, set, take}
 use lib.IntN.{ℤ, pos}
-use lib.Signed.{_<ℤ_}
+use lib.Signed.{_<ℤ_, mag}
+use mir.Syntax.{w64}
+use mir.Val.{toZ, ofZ}
 use Rattle.std.specs.declared.option.Option.{Option}
 use Rattle.std.specs.declared.option.Option.the-variants.{Some, None}
 use Rattle.std.proofs.shelf.Lists.{length-take-le, take-more-set}
@@ -36,6 +38,7 @@ use Rattle.polygons.specs.Points.{place, places}
 use Rattle.polygons.specs.Sums.{CornersOfPairs, SumsInside, Sum}
 use Rattle.polygons.proofs.Corners.{corner-count, corner-at}
 use Rattle.polygons.proofs.Rounding.{polygon-of}
+use Rattle.polygons.proofs.Ways.{held}
 
 -- place k is the one after i
 module _ (l : Polygon) (i k : ℕ) (h : i < l .count) (e : k ≡ after (l .count) i) where
@@ -71,13 +74,15 @@ module _ (l r : Polygon) (i j k m : ℕ) (hi : i < l .count) (hj : j < r .count)
       → Advanced (corner-list l) (corner-list r) i j k m
   step-both t = subst₂ (Advanced (corner-list l) (corner-list r) i j) (after-is l i k hi ek) (after-is r j m hj em) (steps .both (turn-is ∙ t))
 
-  -- the next places, by the sign of the turn
-  pub advances : (o : ℤ) → o ≡ across (place (getD (l .corners) i a)) (place (getD (l .corners) k b)) (place (getD (r .corners) j c)) (place (getD (r .corners) m d)) → (z : ℕ × ℕ)
-      → (pos 0 <ℤ o → z ≡ (k, j)) → (o <ℤ pos 0 → z ≡ (i, m)) → (o ≡ pos 0 → z ≡ (k, m)) → Advanced (corner-list l) (corner-list r) i j (z .0) (z .1)
-  advances o e z f g h =
-      by-ltZ (pos 0) o (λ u. to (f u) (step-one (subst (λ y. pos 0 <ℤ y) e u)))
-        (λ u. by-ltZ o (pos 0) (λ v. to (g v) (step-two (subst (λ y. y <ℤ pos 0) e v)))
-          (λ v. let n : o ≡ pos 0 = omega (arith, lin) in to (h n) (step-both (sym e ∙ n))))
+  -- the next places, by the sign of the turn as a program holds it
+  pub advances : (o : ℤ) → mag o < 9223372036854775808
+      → o ≡ across (place (getD (l .corners) i a)) (place (getD (l .corners) k b)) (place (getD (r .corners) j c)) (place (getD (r .corners) m d)) → (z : ℕ × ℕ)
+      → (pos 0 <ℤ toZ w64 (ofZ w64 o) → z ≡ (k, j)) → (toZ w64 (ofZ w64 o) <ℤ pos 0 → z ≡ (i, m)) → (toZ w64 (ofZ w64 o) ≡ pos 0 → z ≡ (k, m))
+      → Advanced (corner-list l) (corner-list r) i j (z .0) (z .1)
+  advances o fits e z f g h =
+      by-ltZ (pos 0) o (λ u. to (f (subst (λ y. pos 0 <ℤ y) (sym (held o fits)) u)) (step-one (subst (λ y. pos 0 <ℤ y) e u)))
+        (λ u. by-ltZ o (pos 0) (λ v. to (g (subst (λ y. y <ℤ pos 0) (sym (held o fits)) v)) (step-two (subst (λ y. y <ℤ pos 0) e v)))
+          (λ v. let n : o ≡ pos 0 = omega (arith, lin) in to (h (held o fits ∙ n)) (step-both (sym e ∙ n))))
     where
       to : {y : ℕ × ℕ} → z ≡ y → Advanced (corner-list l) (corner-list r) i j (y .0) (y .1) → Advanced (corner-list l) (corner-list r) i j (z .0) (z .1)
       to q s = subst (λ y. Advanced (corner-list l) (corner-list r) i j (y .0) (y .1)) (sym q) s

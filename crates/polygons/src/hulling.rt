@@ -2,7 +2,7 @@
 ghost use mathlib.Core.Path.{_≡_};
 ghost use mathlib.Core.List.{_++_};
 ghost use mathlib.Core.Logic.{_⊎_};
-ghost use Prim.Native.Nat.{_+_, _≤_};
+ghost use Prim.Native.Nat.{_+_, _<_, _≤_};
 ghost use lib.ListN.{length, take};
 ghost use Rattle.kinds.specs.Answers.{Answers};
 ghost use Rattle.geometry.specs.Plane.{Lex};
@@ -42,7 +42,7 @@ fn lesser(p: Cost, q: Cost) -> Cost
 
 /// The hull of two polygons, each with a corner, by gift wrapping over both lists of corners.
 fn march(left: &Polygon, right: &Polygon) -> Option<Polygon>
-    requires { ⌜ 1 ≤ now left .count ⌝ ∗ ⌜ 1 ≤ now right .count ⌝ }
+    requires { ⌜ 0 < now left .count ⌝ ∗ ⌜ 0 < now right .count ⌝ }
     ensures { λ r. ⌜ Answers hulls costs (join (costs (now (left .entry))) (costs (now (right .entry)))) r ⌝ }
 {
     let p = left.corners[0];

@@ -1,6 +1,7 @@
 //! Polygons: a kind whose values are the cheapest costs at every weight.
 mod polygon;
 mod making;
+mod rounds;
 mod turning;
 mod marching;
 mod hulling;

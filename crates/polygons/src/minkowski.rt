@@ -5,7 +5,6 @@ ghost use lib.IntN.{pos};
 ghost use lib.Signed.{_<ℤ_};
 ghost use Rattle.kinds.specs.Answers.{Answers};
 ghost use Rattle.geometry.specs.Plane.{nth};
-ghost use Rattle.geometry.specs.Polygons.{after};
 ghost use Rattle.geometry.specs.Exposed.{Exposed};
 ghost use Rattle.geometry.specs.Sums.{add, sums};
 ghost use Rattle.geometry.specs.Steps.{Advanced};
@@ -17,15 +16,8 @@ use network::Cost;
 use crate::making::empty;
 use crate::making::round;
 use crate::polygon::Polygon;
+use crate::rounds::following;
 use crate::turning::crossing;
-
-/// The place after i, in a round of n.
-pub(crate) fn following(n: usize, i: usize) -> usize
-    requires { ⌜ i < n ⌝ }
-    ensures { λ r. ⌜ r ≡ after n i ⌝ }
-{
-    if i + 1 < n { i + 1 } else { 0 }
-}
 
 /// Where a walk goes from corners i and j, whose next are k and l: along the first list where the turn is to the left,
 /// along the second where it is to the right, and along both where the edges are parallel.

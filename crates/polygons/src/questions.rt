@@ -4,23 +4,16 @@ ghost use Prim.Native.Nat.{_<_, _≤_};
 ghost use lib.ListN.{length};
 ghost use Rattle.std.specs.Options.{Cases};
 ghost use Rattle.geometry.specs.Plane.{nth};
-ghost use Rattle.geometry.specs.Polygons.{before, ray};
+ghost use Rattle.geometry.specs.Polygons.{ray};
 ghost use Rattle.polygons.specs.Points.{place};
 ghost use Rattle.polygons.specs.Corners.{corner-list};
 ghost use Rattle.polygons.specs.Rays.{heading, Cone};
 use network::Cost;
 use network::Ray;
 use network::Way;
-use crate::minkowski::following;
 use crate::polygon::Polygon;
-
-/// The place before i, in a round of n.
-fn preceding(n: usize, i: usize) -> usize
-    requires { ⌜ i < n ⌝ }
-    ensures { λ r. ⌜ r ≡ before n i ⌝ }
-{
-    if i == 0 { n - 1 } else { i - 1 }
-}
+use crate::rounds::following;
+use crate::rounds::preceding;
 
 /// The ray of the edge from one corner to another.
 fn edge_ray(from: Cost, to: Cost) -> Ray
