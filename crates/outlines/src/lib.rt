@@ -163,8 +163,12 @@ mod tests {
         let mut cells = [Hulls.zero(); 18];
         let mut sheet = Sheet::over(&mut cells);
         match corner_lists(&ladder, 0, &mut sheet) {
-            Err(Fault::Misfit(17, 16, network::Stage::Chain)) => Ok(()),
-            _ => Err(Fail::new("33 corners do not fit")),
+            Err(Fault::Misfit(17, 16, network::Stage::Chain)) => {}
+            _ => return Err(Fail::new("33 corners do not fit")),
         }
+        let mut cut = Closing::over(ladder);
+        check(cut.close(5).is_ok())?;
+        check(corners_at(&cut, 4).count() == 8)?;
+        check(lists(&corners_at(&cut, 16), &[]))
     }
 }
