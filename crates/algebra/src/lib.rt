@@ -1,4 +1,6 @@
 //! Semirings and the joins over routes: definitions, proofs and what they show.
+#![tactic(auto)]
+
 ghost use Rattle.algebra.specs.Theorems.{Listed, ListedThrough, ListedExtended};
 
 /// There is a list of all routes between two nodes, of those whose last segment is at most a given one, and of

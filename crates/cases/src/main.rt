@@ -1,4 +1,6 @@
 //! Prints what each of many stored takeoffs comes to.
+#![tactic(auto)]
+
 use report::report;
 use std::io;
 use std::io::Read;

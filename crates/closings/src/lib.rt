@@ -1,4 +1,6 @@
 //! Closings: a source with some of its nodes closed.
+#![tactic(auto)]
+
 mod avoiding;
 mod closing;
 mod shutting;

@@ -1,4 +1,6 @@
 //! From the bytes of a takeoff to its report.
+#![tactic(auto)]
+
 mod entries;
 mod lines;
 mod planning;

@@ -1,4 +1,6 @@
 //! Prints what a takeoff on standard input comes to.
+#![tactic(auto)]
+
 use corner_report::report;
 use std::io;
 use std::io::Read;

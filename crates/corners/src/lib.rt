@@ -1,4 +1,6 @@
 //! Corner lists: what a run of the polygon kind comes to, said of the routes.
+#![tactic(auto)]
+
 ghost use Rattle.std.specs.Prelude.{◌≡◌, ℕ, List, length};
 ghost use Rattle.network.specs.Networks.{Network};
 ghost use Rattle.geometry.specs.Plane.{Pt};

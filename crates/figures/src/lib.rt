@@ -1,4 +1,6 @@
 //! Figures: what runs of the least and the count kind come to, said of the routes.
+#![tactic(auto)]
+
 mod costs;
 mod counting;
 mod finishing;

@@ -1,4 +1,6 @@
 //! Convex lattice polygons: definitions, proofs and what they show.
+#![tactic(auto)]
+
 ghost use Rattle.geometry.specs.Theorems.{Faithful, HullExists, HullConvex, HullCorners, HullCovers, HullSupport};
 ghost use Rattle.geometry.specs.Theorems.{InsideEdges, EdgesInside, UnionSupport, SumSupport, SemiringOfCosts};
 ghost use Rattle.geometry.specs.Theorems.{ConeCheapest, CheapestCone, CornerExposed, ExposingNear, ExposingInRange};

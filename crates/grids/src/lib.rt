@@ -1,4 +1,6 @@
 //! Grids: cells in rows, crossed to the right and down.
+#![tactic(auto)]
+
 mod cell;
 mod crossing;
 mod grid;

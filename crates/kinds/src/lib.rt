@@ -1,4 +1,6 @@
 //! Kinds: what a run computes at each node.
+#![tactic(auto)]
+
 mod amount;
 mod count;
 mod kind;

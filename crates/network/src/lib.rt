@@ -1,4 +1,6 @@
 //! The words of the subject: costs, weights, choices, segments, steps and faults.
+#![tactic(auto)]
+
 mod checking;
 mod choice;
 mod choosing;

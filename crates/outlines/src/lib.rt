@@ -1,4 +1,6 @@
 //! Polygons tried out: hulls, sums, cones, and the corner lists of whole networks.
+#![tactic(auto)]
+
 use closings::Closing;
 use corners::corner_lists;
 use grids::{Cell, Grid};

@@ -1,4 +1,6 @@
 //! Plans: the corner lists of a network, node by node, and what is asked of them.
+#![tactic(auto)]
+
 mod asking;
 mod beginnings;
 mod call;

@@ -1,4 +1,6 @@
 //! Polygons: a kind whose values are the cheapest costs at every weight.
+#![tactic(auto)]
+
 mod cheapest;
 mod hulling;
 mod hulls;

@@ -1,4 +1,6 @@
 //! What is printed of a takeoff: a report, its lines, and their text.
+#![tactic(auto)]
+
 mod corner_line;
 mod entry;
 mod heading;

@@ -1,4 +1,6 @@
 //! The worked samples, asked of the public calls.
+#![tactic(auto)]
+
 mod answer;
 mod asking;
 mod grounds;

@@ -1,4 +1,6 @@
 //! From the bytes of a takeoff to what is printed of it.
+#![tactic(auto)]
+
 mod heading;
 mod line;
 mod lines;

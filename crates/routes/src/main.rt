@@ -1,4 +1,6 @@
 //! Prints what a takeoff on standard input comes to.
+#![tactic(auto)]
+
 use report::{Report, report};
 use std::io;
 use std::io::Read;

@@ -1,4 +1,6 @@
 //! Runs: one pass over a network, with the values of any kind.
+#![tactic(auto)]
+
 mod letters;
 mod node;
 mod pass;

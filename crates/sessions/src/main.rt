@@ -1,4 +1,6 @@
 //! Gives plans stored lists of calls, in any order and with any arguments, and prints what they answer.
+#![tactic(auto)]
+
 ghost use Rattle.std.specs.Prelude.{◌≤◌};
 
 use network::{Fault, Record, Size, Step, Weight};

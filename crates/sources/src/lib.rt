@@ -1,4 +1,6 @@
 //! Sources: where a network comes from.
+#![tactic(auto)]
+
 mod filling;
 mod listed;
 mod source;

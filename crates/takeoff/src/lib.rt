@@ -1,4 +1,6 @@
 //! Takeoff files: reading what an estimator's drawing program wrote.
+#![tactic(auto)]
+
 ghost use Rattle.std.specs.Prelude.{◌≡◌, length};
 ghost use Rattle.network.specs.Networks.{arc};
 ghost use Rattle.takeoff.specs.Takeoff.{Contents, arcs_of, weights_of};

@@ -1,4 +1,6 @@
 //! Working back from a corner of a node to the start.
+#![tactic(auto)]
+
 mod choosing;
 mod matching;
 mod retracing;

@@ -1,4 +1,6 @@
 //! Grids and closings tried out: routes counted and weighed, and every refusal in its order.
+#![tactic(auto)]
+
 use closings::Closing;
 use figures::{count_routes, least_cost};
 use grids::{Cell, Grid};
