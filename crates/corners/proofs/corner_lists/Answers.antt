@@ -6,6 +6,6 @@ returns g c =
     record {
       lent = c.run.ensures.lent;
       as_long = c.run.ensures.as_long;
-      holds-each-corner-list =
-          corners_found (g.S.Source.network c.args.source.now) (g.S.Source.ruled c.args.source.now) c.args.start _ _ c.run.result c.run.ensures.holds-the-join-over-all-routes;
+      holds_each_corner_list =
+          corners_found (g.S.Source.network c.args.source.now) (g.S.Source.ruled c.args.source.now) c.args.start _ _ c.run.result c.run.ensures.holds_the_join_over_all_routes;
     }

@@ -3,4 +3,4 @@ use Rattle.geometry.proofs.Alone.{corner_alone_in_range, alone_corner}
 use Rattle.geometry.proofs.Convexity.{corner_once}
 
 pub returns : goal.returns
-returns c = record { only-these = corner_alone_in_range; all-these = alone_corner; once = corner_once }
+returns c = record { only_these = corner_alone_in_range; all_these = alone_corner; once = corner_once }

@@ -4,8 +4,8 @@ use Rattle.corner_report.proofs.OneByOne.{few_corners}
 use Rattle.corner_report.proofs.Whole.{answered, over_own}
 use Rattle.corner_report.proofs.reckoning.reckon.Goals as goal
 
-pub invariant-of-result : goal.invariant-of-result
-invariant-of-result c =
+pub invariant_of-result : goal.invariant_of-result
+invariant_of-result c =
     let entered = c.in-ok-corners.ensures in
     let few = few_corners c.in-ok-plan.plan.state.lists c.args.header.target in
     (omega (arith, entered.1), (entered.0, (c.requires.weighed.0, (c.in-ok-lines.ensures.room, tt))))

@@ -10,7 +10,7 @@ returns-in-Ok g c =
     record {
       lent = c.run.ensures.lent;
       as_long = c.run.ensures.as_long;
-      holds-each-least-cost =
+      holds_each_least_cost =
           subst (λ (w : Weight). LeastsFound network c.args.start w c.args.sheet.now.cells.now c.run.new.sheet.cells.now c.run.result) c.in-Ok.ensures
-          (leasts_found network (g.S.Source.ruled c.args.source.now) c.args.start c.in-Ok.kind.weight c.in-Ok.kind.lawful _ _ c.run.result c.run.ensures.holds-the-join-over-all-routes);
+          (leasts_found network (g.S.Source.ruled c.args.source.now) c.args.start c.in-Ok.kind.weight c.in-Ok.kind.lawful _ _ c.run.result c.run.ensures.holds_the_join_over_all_routes);
     }

@@ -7,8 +7,8 @@ use Rattle.figures.proofs.single.least_cost.Goals as goal
 pub returns-in-Some : goal.returns-in-Some
 returns-in-Some g c =
     let network = g.S.Source.network c.args.source.now in
-    let found = c.in-ok-least-costs.ensures.holds-each-least-cost in
-    let cells = c.least-costs.new.sheet.cells.now in
+    let found = c.in-ok-least_costs.ensures.holds_each_least_cost in
+    let cells = c.least_costs.new.sheet.cells.now in
     let here = c.in-Some.ensures in
     let inside = c.nodes.ensures in
     let same = get_or-map amount cells c.args.target None None here.0 ∙ ap amount (sym (here.1 None)) in

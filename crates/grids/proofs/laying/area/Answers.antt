@@ -8,5 +8,5 @@ returns-then-width-gt128 c = λ a. omega (arith, wide_enough c.args.width c.args
 pub returns-then-height-gt128 : goal.returns-then-height-gt128
 returns-then-height-gt128 c = λ a. omega (arith, high_enough c.args.width c.args.height a)
 
-pub overflow-mul-count : goal.overflow-mul-count
-overflow-mul-count c = omega (arith, area_bounded c.args.width c.args.height (omega arith) (omega arith))
+pub overflow_mul-count : goal.overflow_mul-count
+overflow_mul-count c = omega (arith, area_bounded c.args.width c.args.height (omega arith) (omega arith))

@@ -10,13 +10,13 @@ use Rattle.grids.proofs.mildness.mild_extras.Goals as goal
 pub loop-cell-preserved : goal.loop-cell-preserved
 loop-cell-preserved c =
     below_more (λ k. (x : Size) → cell c.args.cells.now k ≡ Open x → Mild x) _ c.loop-cell.invariant
-    (λ x e. c.mild-cell.ensures.0 c.if-not-mild-cell.false x (get_or_default c.args.cells.now c.loop-cell.cell-index _ _ c.loop-cell-test.true ∙ e))
+    (λ x e. c.mild_cell.ensures.0 c.if-not-mild_cell.false x (get_or_default c.args.cells.now c.loop-cell.cell-index _ _ c.loop-cell-test.true ∙ e))
 
-pub returns-then-not-mild-cell : goal.returns-then-not-mild-cell
-returns-then-not-mild-cell c = (
+pub returns-then-not-mild_cell : goal.returns-then-not-mild_cell
+returns-then-not-mild_cell c = (
   λ f. absurd (false≢true f),
-  λ m. sym c.if-not-mild-cell.true
-      ∙ c.mild-cell.ensures.1 (λ x e. m (record { number = c.loop-cell.cell-index; extra = x; is = get_or_default c.args.cells.now c.loop-cell.cell-index _ _ c.loop-cell-test.true ∙ e })),
+  λ m. sym c.if-not-mild_cell.true
+      ∙ c.mild_cell.ensures.1 (λ x e. m (record { number = c.loop-cell.cell-index; extra = x; is = get_or_default c.args.cells.now c.loop-cell.cell-index _ _ c.loop-cell-test.true ∙ e })),
 )
 
 pub returns : goal.returns

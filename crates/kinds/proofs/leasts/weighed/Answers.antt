@@ -2,10 +2,10 @@ use Rattle.network.specs.Costs.{point}
 use Rattle.kinds.specs.LeastLaws.{weighed_bounded}
 use Rattle.kinds.proofs.leasts.weighed.Goals as goal
 
-pub invariant-of-result : goal.invariant-of-result
-invariant-of-result c =
+pub invariant_of-result : goal.invariant_of-result
+invariant_of-result c =
     let choice = c.args.choice.now in (
-      weighed_bounded c.args.weight.now choice.size (point c.cost.result) c.weighted-cost.result
-          c.requires (choice.price_within, choice.pressure_within) c.cost.ensures c.weighted-cost.ensures,
+      weighed_bounded c.args.weight.now choice.size (point c.cost.result) c.weighted_cost.result
+          c.requires (choice.price_within, choice.pressure_within) c.cost.ensures c.weighted_cost.ensures,
       tt,
     )

@@ -16,8 +16,8 @@ priced c = passed c.args.weight.now.a c.args.cost.now.price _ (search rules) (se
 pressed : (c : goal.After-product-2) → c.product-2.result ≡ c.args.weight.now.b *ℤ c.args.cost.now.pressure
 pressed c = passed c.args.weight.now.b c.args.cost.now.pressure _ (search rules) (search rules) c.product-2.ensures
 
-pub overflow-add-result : goal.overflow-add-result
-overflow-add-result c =
+pub overflow_add-result : goal.overflow_add-result
+overflow_add-result c =
     sum_fits c.product.result c.product-2.result
     (bounded c.args.weight.now.a _ _ (search rules) c.args.cost.now.price_within (priced c))
     (bounded c.args.weight.now.b _ _ (search rules) c.args.cost.now.pressure_within (pressed c))

@@ -3,8 +3,8 @@ use Rattle.polygons.specs.Points.{places}
 use Rattle.polygons.specs.Rounding.{listed_of, turns_of, apart_of, leftmost_of, lowest_of}
 use Rattle.polygons.proofs.making.round.Goals as goal
 
-pub invariant-of-result : goal.invariant-of-result
-invariant-of-result c =
+pub invariant_of-result : goal.invariant_of-result
+invariant_of-result c =
     let ps = places (take c.args.count c.args.corners) in
     let g = c.requires.1.1 in
     (c.requires.0, (c.requires.1.0, (listed_of c.args.corners c.args.count c.requires.0 c.requires.1.0, (turns_of ps g, (apart_of ps g, (leftmost_of ps g, (lowest_of ps g, tt)))))))

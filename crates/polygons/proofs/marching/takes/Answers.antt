@@ -19,19 +19,19 @@ no_farther : (p b s : Pt) → past p b s ≤ℤ pos 0 → dot (away p b) s ≤�
 unfolding past
 no_farther p b s h = omega (arith, lin)
 
-pub returns-then-in-line : goal.returns-then-in-line
-returns-then-in-line c =
+pub returns-then-in_line : goal.returns-then-in_line
+returns-then-in_line c =
     let p = place c.args.p in
     let b = place c.args.b in
     let s = place c.args.s in
-    let level = c.in-line.ensures.yes c.if-in-line.true in
+    let level = c.in_line.ensures.yes c.if-in_line.true in
     let far = c.farther.ensures in
     record {
       yes = λ e. record { other = c.same.ensures.no c.if-same.false; why = inr (inr (level, farther_on p b s (far.yes e))) };
       no = λ e. record { why = inr (c.same-else-same.ensures.no c.if-same-2.false, inr (level, no_farther p b s (far.no e))) };
     }
 
-pub returns-else-in-line : goal.returns-else-in-line
-returns-else-in-line c =
-    let left = above _ (c.right-of.ensures.no c.if-right-of.false) (c.in-line.ensures.no c.if-in-line.false) in
+pub returns-else-in_line : goal.returns-else-in_line
+returns-else-in_line c =
+    let left = above _ (c.right_of.ensures.no c.if-right_of.false) (c.in_line.ensures.no c.if-in_line.false) in
     record { yes = never; no = λ _. record { why = inr (c.same-else-same.ensures.no c.if-same-2.false, inl left) } }

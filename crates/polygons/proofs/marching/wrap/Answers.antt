@@ -8,15 +8,15 @@ use Rattle.polygons.proofs.marching.wrap.Goals as goal
 pub loop-n-init : goal.loop-n-init
 loop-n-init c = (refl, begins c.args.points.now (place c.args.first) c.requires, λ h. absurd (omega arith))
 
-pub next-corner-next-requires : goal.next-corner-next-requires
-next-corner-next-requires c =
+pub next_corner-next-requires : goal.next_corner-next-requires
+next_corner-next-requires c =
     let now = c.loop-n in
     (now.invariant.1.among, exposed c.args.points.now (place c.args.first) now.corners now.n now.invariant.0 (omega arith) now.at now.invariant.1)
 
 pub round-requires : goal.round-requires
 round-requires c =
     let now = c.loop-n in
-    let next = c.next-corner-next in (
+    let next = c.next_corner-next in (
       omega arith,
       (
         length-set _ _ _ ∙ now.invariant.0,
@@ -28,21 +28,21 @@ round-requires c =
 pub returns-then-same : goal.returns-then-same
 returns-then-same c =
     let now = c.loop-n in
-    let next = c.next-corner-next in
+    let next = c.next_corner-next in
     ap support c.round.ensures
     ∙ closed_support c.args.points.now (place c.args.first) now.corners now.n now.invariant.0 (omega arith) now.at now.invariant.1
     (place next.result) next.ensures (c.same.ensures.yes c.if-same.true)
 
 -- the walk one corner on
 onward : (c : goal.Else-same) → Going (places c.args.points.now) (places (take (c.loop-n.n + 1) (set c.loop-n.corners c.loop-n.n c.loop-n.at)))
-    (place c.args.first) (place c.next-corner-next.result)
+    (place c.args.first) (place c.next_corner-next.result)
 onward c =
     let now = c.loop-n in
-    let next = c.next-corner-next in
+    let next = c.next_corner-next in
     goes_on c.args.points.now (place c.args.first) now.corners now.n now.invariant.0 (omega arith) now.at now.invariant.1
     (place next.result) next.ensures (c.same.ensures.no c.if-same.false)
 
 pub loop-n-preserved : goal.loop-n-preserved
 loop-n-preserved c =
     let room = length-set _ _ _ ∙ c.loop-n.invariant.0 in
-    (room, onward c, misfit (places c.args.points.now) _ (c.loop-n.n + 1) (place c.args.first) (place c.next-corner-next.result) room (omega arith) (onward c))
+    (room, onward c, misfit (places c.args.points.now) _ (c.loop-n.n + 1) (place c.args.first) (place c.next_corner-next.result) room (omega arith) (onward c))

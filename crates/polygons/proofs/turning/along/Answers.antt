@@ -8,8 +8,8 @@ one c = passed c.args.first.now.dx c.args.second.now.dx _ (search rules) (search
 other : (c : goal.After-product-2) → c.product-2.result ≡ c.args.first.now.dy *ℤ c.args.second.now.dy
 other c = passed c.args.first.now.dy c.args.second.now.dy _ (search rules) (search rules) c.product-2.ensures
 
-pub overflow-add-result : goal.overflow-add-result
-overflow-add-result c =
+pub overflow_add-result : goal.overflow_add-result
+overflow_add-result c =
     sum_fits c.product.result c.product-2.result
     (bounded _ _ _ c.args.first.now.dx_within c.args.second.now.dx_within (one c))
     (bounded _ _ _ c.args.first.now.dy_within c.args.second.now.dy_within (other c))

@@ -8,8 +8,8 @@ one c = passed c.args.first.now.dx c.args.second.now.dy _ (search rules) (search
 other : (c : goal.After-product-2) → c.product-2.result ≡ c.args.first.now.dy *ℤ c.args.second.now.dx
 other c = passed c.args.first.now.dy c.args.second.now.dx _ (search rules) (search rules) c.product-2.ensures
 
-pub overflow-sub-result : goal.overflow-sub-result
-overflow-sub-result c =
+pub overflow_sub-result : goal.overflow_sub-result
+overflow_sub-result c =
     difference_fits c.product.result c.product-2.result
     (bounded _ _ _ c.args.first.now.dx_within c.args.second.now.dy_within (one c))
     (bounded _ _ _ c.args.first.now.dy_within c.args.second.now.dx_within (other c))

@@ -9,4 +9,4 @@ pub returns : goal.returns
 returns c =
     let weighed = drawn_holds.weighed.1.1.0 in
     reported drawn drawn_holds file takeoff (file_of file takeoff tt refl refl) (lit≤ tt, lit≤ tt) refl refl refl lines refl (weighed, tt)
-    c.report.result c.report.ensures.reports-the-takeoff
+    c.report.result c.report.ensures.reports_the_takeoff

@@ -15,18 +15,18 @@ pub returns-in-err-evenly : goal.returns-in-err-evenly
 returns-in-err-evenly c =
     not_refused _ _ (c.in-err-evenly.ensures drawn drawn_holds (sym c.in-ok-table.ensures) refl _ drawn_holds.weighed.0)
 
-pub returns-in-err-by-nothing : goal.returns-in-err-by-nothing
-returns-in-err-by-nothing c =
-    not_refused _ _ (c.in-err-by-nothing.ensures drawn drawn_holds (sym c.in-ok-table.ensures) refl _ drawn_holds.weighed.1.0)
+pub returns-in-err-by_nothing : goal.returns-in-err-by_nothing
+returns-in-err-by_nothing c =
+    not_refused _ _ (c.in-err-by_nothing.ensures drawn drawn_holds (sym c.in-ok-table.ensures) refl _ drawn_holds.weighed.1.0)
 
-pub returns-in-err-by-pressure : goal.returns-in-err-by-pressure
-returns-in-err-by-pressure c =
-    not_refused _ _ (c.in-err-by-pressure.ensures drawn drawn_holds (sym c.in-ok-table.ensures) refl _ drawn_holds.weighed.1.1.0)
+pub returns-in-err-by_pressure : goal.returns-in-err-by_pressure
+returns-in-err-by_pressure c =
+    not_refused _ _ (c.in-err-by_pressure.ensures drawn drawn_holds (sym c.in-ok-table.ensures) refl _ drawn_holds.weighed.1.1.0)
 
 pub returns : goal.returns
 returns c =
     let drew = sym c.in-ok-table.ensures in
     let evenly = same_best _ _ (c.in-ok-evenly.ensures drawn drawn_holds drew refl _ drawn_holds.weighed.0) in
-    let by_nothing = same_best _ _ (c.in-ok-by-nothing.ensures drawn drawn_holds drew refl _ drawn_holds.weighed.1.0) in
-    let by_pressure = same_best _ _ (c.in-ok-by-pressure.ensures drawn drawn_holds drew refl _ drawn_holds.weighed.1.1.0) in
+    let by_nothing = same_best _ _ (c.in-ok-by_nothing.ensures drawn drawn_holds drew refl _ drawn_holds.weighed.1.0) in
+    let by_pressure = same_best _ _ (c.in-ok-by_pressure.ensures drawn drawn_holds drew refl _ drawn_holds.weighed.1.1.0) in
     λ i. evenly i ∷ by_nothing i ∷ by_pressure i ∷ []

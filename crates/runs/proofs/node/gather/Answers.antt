@@ -6,10 +6,10 @@ use Rattle.runs.proofs.node.gather.Goals.{in-Some+in-Ok, in-default}
 
 pub loop-e-init : goal.loop-e-init
 loop-e-init g c = λ _.
-    begin (g.met.K.Kind.lawful c.args.kind.now) (g.S.Source.ruled c.args.source.now) c.args.start c.args.v c.beginning-sum.ensures.at-start c.beginning-sum.ensures.elsewhere
+    begin (g.met.K.Kind.lawful c.args.kind.now) (g.S.Source.ruled c.args.source.now) c.args.start c.args.v c.beginning-sum.ensures.at_start c.beginning-sum.ensures.elsewhere
 
-pub offset-bounds-held-segment : goal.offset-bounds-held-segment
-offset-bounds-held-segment g c =
+pub offset_bounds-held-segment : goal.offset_bounds-held-segment
+offset_bounds-held-segment g c =
     let rises = rising (g.S.Source.ruled c.args.source.now) c.loop-e.e (segment_arc c.in-Some.segment) c.in-Some.ensures.stands in
     omega (arith, rises, c.in-Some.ensures.into, c.requires)
 

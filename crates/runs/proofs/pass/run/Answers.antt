@@ -23,7 +23,7 @@ returns-in-Err g c =
     record {
       lent = c.loop-v.invariant.1;
       as_long = c.loop-v.invariant.2;
-      holds-the-join-over-all-routes =
+      holds_the_join_over_all_routes =
           run_stops (g.K.Kind.ring c.args.kind.now) (g.S.Source.network c.args.source.now) c.args.start (g.K.Kind.means c.args.kind.now)
           _ _ _ c.loop-v.v c.in-Err.fault c.all.ensures (omega (arith, c.nodes-nodes.ensures)) (omega (arith, c.nodes-nodes.ensures))
           (omega (arith, c.nodes-nodes.ensures, c.len.ensures)) c.loop-v.invariant.2 c.loop-v.invariant.0 c.in-Err.ensures;
@@ -35,7 +35,7 @@ returns g c =
     record {
       lent = c.loop-v.invariant.1;
       as_long = c.loop-v.invariant.2;
-      holds-the-join-over-all-routes = (
+      holds_the_join_over_all_routes = (
         omega (arith, c.nodes-nodes.ensures),
         omega (arith, c.nodes-nodes.ensures, c.len.ensures),
         subst (λ n. Done (g.K.Kind.ring c.args.kind.now) (g.S.Source.network c.args.source.now) c.args.start (g.K.Kind.means c.args.kind.now) c.args.sheet.now.cells.now c.loop-v.sheet.cells.now n) all c.loop-v.invariant.0,

@@ -15,7 +15,7 @@ returns-else-rest-length c =
     let three : 3 ≤ length c.args.bytes.now = search rules in
     record {
       cuts =
-          whole_field c.args.bytes.now c.split-at.result.0.now c.split-at.result.1.now (λ i. (c.type-inv.bytes i).fits) three
+          whole_field c.args.bytes.now c.split_at.result.0.now c.split_at.result.1.now (λ i. (c.type-inv.bytes i).fits) three
           (search rules) (search rules) (search rules);
       parts = search rules;
     }

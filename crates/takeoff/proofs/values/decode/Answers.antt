@@ -6,8 +6,8 @@ returns-in-Nodes c = decoded_nodes c.args.tag c.args.body.now c.requires (λ i. 
 
 pub returns-in-Segment : goal.returns-in-Segment
 returns-in-Segment c =
-    decoded_segment c.args.tag c.args.body.now c.requires (λ i. (c.type-inv.body i).fits) c.from-in-Segment.result c.from-in-Segment-2.result c.segment-from.result
-    c.in-Segment.is c.from-in-Segment.ensures c.from-in-Segment-2.ensures c.segment-from.ensures
+    decoded_segment c.args.tag c.args.body.now c.requires (λ i. (c.type-inv.body i).fits) c.from-in-Segment.result c.from-in-Segment-2.result c.segment_from.result
+    c.in-Segment.is c.from-in-Segment.ensures c.from-in-Segment-2.ensures c.segment_from.ensures
 
 pub returns-in-Points : goal.returns-in-Points
 returns-in-Points c =

@@ -6,8 +6,8 @@ pub loop-rest-preserved : goal.loop-rest-preserved
 loop-rest-preserved c =
     let enough : 4 ≤ length c.loop-rest.rest.now = search rules in
     let free : c.loop-rest.count < 8 = omega (arith, c.requires.1, c.requires.2, c.loop-rest.invariant.long) in
-    spelt_more c.args.bytes.now c.loop-rest.rest.now c.loop-rest.sizes c.loop-rest.count c.size-from.result
-    c.loop-rest.invariant enough free c.size-from.ensures.0 c.size-from.ensures.1
+    spelt_more c.args.bytes.now c.loop-rest.rest.now c.loop-rest.sizes c.loop-rest.count c.size_from.result
+    c.loop-rest.invariant enough free c.size_from.ensures.0 c.size_from.ensures.1
 
 pub returns : goal.returns
 returns c =

@@ -4,6 +4,6 @@ use Rattle.takeoff.proofs.values.weight_from.Goals as goal
 
 pub returns : goal.returns
 returns c = (
-  weight_spells c.args.body.now c.from-four.result c.from-four-2.result (search rules) (search rules) c.requires c.from-four.ensures c.from-four-2.ensures,
-  weight_sayable c.args.body.now c.from-four.result c.from-four-2.result (search rules) (search rules),
+  weight_spells c.args.body.now c.from_four.result c.from_four-2.result (search rules) (search rules) c.requires c.from_four.ensures c.from_four-2.ensures,
+  weight_sayable c.args.body.now c.from_four.result c.from_four-2.result (search rules) (search rules),
 )

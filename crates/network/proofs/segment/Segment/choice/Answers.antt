@@ -12,8 +12,8 @@ ranged s k h =
     let long : length (choices s.listed) ≡ s.listed.count = rw length-take (omega (arith, s.listed.room, s.few)) in
     subst InRange (same s k h) (s.ranged k (omega (arith, long)))
 
-pub invariant-of-result : goal.invariant-of-result
-invariant-of-result c = let r = ranged c.args.self.now c.args.k c.if-k-self.true in (r.0, (r.1, tt))
+pub invariant_of-result : goal.invariant_of-result
+invariant_of-result c = let r = ranged c.args.self.now c.args.k c.if-k-self.true in record { price_within = r.0; pressure_within = r.1 }
 
 pub returns-then-k-self : goal.returns-then-k-self
 returns-then-k-self c = (c.if-k-self.true, sym (same c.args.self.now c.args.k c.if-k-self.true))

@@ -8,4 +8,4 @@ returns-then-self-nodes g c = λ stands. AllSettled refl c.in-Some.start c.in-So
 
 pub returns : goal.returns
 returns g c =
-    next_list (g.S.Source.network c.args.self.now.source) (g.S.Source.ruled c.args.self.now.source) c.args.self.now.state c.in-Some.start c.in-Some.is (omega arith) c.node-value.result c.node-value.ensures
+    next_list (g.S.Source.network c.args.self.now.source) (g.S.Source.ruled c.args.self.now.source) c.args.self.now.state c.in-Some.start c.in-Some.is (omega arith) c.node_value.result c.node_value.ensures

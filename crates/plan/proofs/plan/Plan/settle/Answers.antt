@@ -9,8 +9,8 @@ listed g c = omega (arith, c.in-Ok.ensures.lower, (g.S.Source.ruled c.args.self.
 pub bounds-self-v : goal.bounds-self-v
 bounds-self-v g c = omega (arith, c.in-Ok.ensures.lower, (g.S.Source.ruled c.args.self.now.source).few)
 
-pub overflow-add-self : goal.overflow-add-self
-overflow-add-self g c = let few : c.args.self.now.state.settled < 128 = omega (arith, c.in-Ok.ensures.lower, (g.S.Source.ruled c.args.self.now.source).few) in search rules
+pub overflow_add-self : goal.overflow_add-self
+overflow_add-self g c = let few : c.args.self.now.state.settled < 128 = omega (arith, c.in-Ok.ensures.lower, (g.S.Source.ruled c.args.self.now.source).few) in search rules
 
 pub returns-in-Ok : goal.returns-in-Ok
 returns-in-Ok g c =
@@ -19,8 +19,8 @@ returns-in-Ok g c =
     let σ = c.args.self.now.state in
     let found = c.in-Ok.ensures in
     record {
-      keeps-its-source = refl;
-      replaces-one-list = (refl, (c.in-Ok.list, refl));
+      keeps_its_source = refl;
+      replaces_one_list = (refl, (c.in-Ok.list, refl));
       answers = found_settles N ruled σ c.in-Ok.list found;
       stands = λ stands. settled_stands N ruled σ _ found.start c.in-Ok.list found.is_started refl refl refl found.lower (found.value stands) (found.fits stands) stands;
     }

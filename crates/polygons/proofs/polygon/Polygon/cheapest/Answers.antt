@@ -22,7 +22,7 @@ pub loop-k-init : goal.loop-k-init
 loop-k-init c =
     let l = c.args.self.now in
     let w = c.args.weight.now in
-    let z = c.weighted-cost in
+    let z = c.weighted_cost in
     cheapest_one (corner_list l) (pair w) _ (costs_k l w 0 c.index-self-0.result z.result (omega arith) z.type-inv z.ensures)
 
 pub loop-k-preserved : goal.loop-k-preserved
@@ -30,7 +30,7 @@ loop-k-preserved c =
     let l = c.args.self.now in
     let w = c.args.weight.now in
     let now = c.loop-k in
-    let z = c.weighted-cost-least in
+    let z = c.weighted_cost-least in
     let e = costs_k l w now.k c.index-self-k.result z.result c.loop-k-test.true z.type-inv z.ensures in
     elim c.if-below.branch [
       | then-below t ↦ let b = t.best-is in simp b (cheapest_took (corner_list l) (pair w) now.k now.best.least now.best.corner now.invariant _ e (c.below.ensures.yes t.if-below.true))

@@ -10,8 +10,8 @@ use Rattle.sources.proofs.table.Table.entry.Goals as goal
 lawful : (t : Table) (e : ℕ) (d : Record) → e < t.count → LawfulRecord t.nodes (get_or t.records e d)
 lawful t e d h = subst (LawfulRecord t.nodes) (sym (read t e d h)) (entry_lawful t e h)
 
-pub invariant-of-result : goal.invariant-of-result
-invariant-of-result c =
+pub invariant_of-result : goal.invariant_of-result
+invariant_of-result c =
     let h = lawful c.args.self.now c.args.e c.index-self-e.result c.requires in
     (h.counted.0, (h.counted.1, (h.ranged, tt)))
 
