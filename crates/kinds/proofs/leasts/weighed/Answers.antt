@@ -4,8 +4,9 @@ use Rattle.kinds.proofs.leasts.weighed.Goals as goal
 
 pub invariant_of-result : goal.invariant_of-result
 invariant_of-result c =
-    let choice = c.args.choice.now in (
-      weighed_bounded c.args.weight.now choice.size (point c.cost.result) c.weighted_cost.result
-          c.requires (choice.price_within, choice.pressure_within) c.cost.ensures c.weighted_cost.ensures,
-      tt,
-    )
+    let choice = c.args.choice.now in
+    record {
+      bounded =
+          weighed_bounded c.args.weight.now choice.size (point c.cost.result) c.weighted_cost.result
+          c.requires (choice.price_within, choice.pressure_within) c.cost.ensures c.weighted_cost.ensures;
+    }

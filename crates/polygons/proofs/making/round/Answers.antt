@@ -7,4 +7,12 @@ pub invariant_of-result : goal.invariant_of-result
 invariant_of-result c =
     let ps = places (take c.args.count c.args.corners) in
     let g = c.requires.1.1 in
-    (c.requires.0, (c.requires.1.0, (listed_of c.args.corners c.args.count c.requires.0 c.requires.1.0, (turns_of ps g, (apart_of ps g, (leftmost_of ps g, (lowest_of ps g, tt)))))))
+    record {
+      few = c.requires.0;
+      room = c.requires.1.0;
+      listed = listed_of c.args.corners c.args.count c.requires.0 c.requires.1.0;
+      turns = turns_of ps g;
+      apart = apart_of ps g;
+      leftmost = leftmost_of ps g;
+      lowest = lowest_of ps g;
+    }

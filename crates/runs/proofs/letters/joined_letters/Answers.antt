@@ -6,7 +6,7 @@ use Rattle.network.proofs.Lawful.{choices_counted}
 use Rattle.runs.proofs.FirstLetters.{begin, turn, stuck, done}
 use Rattle.runs.proofs.Gathers.{moved}
 use Rattle.runs.proofs.letters.joined_letters.Goals as goal
-use Rattle.runs.proofs.letters.joined_letters.Goals.{in-Some+in-Some-join, in-default}
+use Rattle.runs.proofs.letters.joined_letters.Goals.{in-Some+in-Some-join, in_default}
 
 long : (s : Segment) → length (choices s.listed) ≡ s.listed.count
 long s = choices_counted s.listed (s.some, s.few)
@@ -25,7 +25,7 @@ loop-k-preserved g c =
           moved (ap means w.sum-is)
           (turn (g.met.K.Kind.lawful kind) (segment_arc c.args.segment.now) c.loop-k.k w.in-Some-join.ensures ((g.met.K.Kind.fitting kind).held_fits _) c.loop-k.invariant
           (w.letter.ensures ∙ ap (g.K.Kind.ring kind).letter w.in-Some.ensures.1) (omega (arith, inside)))
-      | in-default w ↦ absurd (omega (arith, w.in-default.ensures))
+      | in_default w ↦ absurd (omega (arith, w.in_default.ensures))
     ]
 
 pub returns-in-None : goal.returns-in-None

@@ -2,7 +2,7 @@ use Rattle.std.proofs.Common.{◌≡◌, ◌<◌, length, refl, ap, ◌∙◌, a
 use Rattle.network.specs.Networks.{segment_arc}
 use Rattle.runs.proofs.Gathers.{begin, passed, taken, stops, finish, read_means, rising, moved, joined_value}
 use Rattle.runs.proofs.node.gather.Goals as goal
-use Rattle.runs.proofs.node.gather.Goals.{in-Some+in-Ok, in-default}
+use Rattle.runs.proofs.node.gather.Goals.{in-Some+in-Ok, in_default}
 
 pub loop-e-init : goal.loop-e-init
 loop-e-init g c = λ _.
@@ -47,7 +47,7 @@ loop-e-preserved g c =
           let low : arc.tail < c.args.v = omega (arith, rises, w.in-Some.ensures.into) in
           λ h. let tail = read_means means c.args.held.now arc.tail _ _ (omega (arith, low, c.requires)) w.index-held-segment.is ∙ joined_value (g.K.Kind.ring c.args.kind.now) ruled _ arc.tail (h _ low) in
           moved (ap means w.sum-is) (taken laws ruled _ _ c.loop-e.e arc w.in-Some.ensures.stands w.in-Some.ensures.into tail (c.loop-e.invariant h) inside w.in-Ok.ensures)
-      | in-default w ↦ λ h. moved (ap means w.sum-is) (passed laws ruled _ _ c.loop-e.e inside w.in-default.ensures (c.loop-e.invariant h))
+      | in_default w ↦ λ h. moved (ap means w.sum-is) (passed laws ruled _ _ c.loop-e.e inside w.in_default.ensures (c.loop-e.invariant h))
     ]
 
 pub returns : goal.returns

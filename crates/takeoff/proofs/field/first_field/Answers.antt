@@ -5,17 +5,17 @@ use Rattle.takeoff.proofs.field.first_field.Goals as goal
 pub returns-then-rest-length : goal.returns-then-rest-length
 returns-then-rest-length c =
     let three : 3 ≤ length c.args.bytes.now = search rules in
-    record { cuts = torn_late c.args.bytes.now (λ i. (c.type-inv.bytes i).fits) three (search rules); parts = tt }
+    record { cuts = torn_late c.args.bytes.now (λ i. (c.type_inv.bytes i).fits) three (search rules); parts = tt }
 
-pub returns-in-default : goal.returns-in-default
-returns-in-default c = record { cuts = torn_early c.args.bytes.now (λ i. (c.type-inv.bytes i).fits) (search rules); parts = tt }
+pub returns-in_default : goal.returns-in_default
+returns-in_default c = record { cuts = torn_early c.args.bytes.now (λ i. (c.type_inv.bytes i).fits) (search rules); parts = tt }
 
 pub returns-else-rest-length : goal.returns-else-rest-length
 returns-else-rest-length c =
     let three : 3 ≤ length c.args.bytes.now = search rules in
     record {
       cuts =
-          whole_field c.args.bytes.now c.split_at.result.0.now c.split_at.result.1.now (λ i. (c.type-inv.bytes i).fits) three
+          whole_field c.args.bytes.now c.split_at.result.0.now c.split_at.result.1.now (λ i. (c.type_inv.bytes i).fits) three
           (search rules) (search rules) (search rules);
       parts = search rules;
     }

@@ -4,7 +4,7 @@ use Rattle.network.specs.Networks.{segment_arc}
 use Rattle.polygons.specs.Corners.{corner_list}
 use Rattle.traceback.proofs.Searches.{tail_low, list_read, served, none_served, passed, pass_unchosen}
 use Rattle.traceback.proofs.stepping.step_back.Goals as goal
-use Rattle.traceback.proofs.stepping.step_back.Goals.{in-Some+in-default-lowest_choice, in-default}
+use Rattle.traceback.proofs.stepping.step_back.Goals.{in-Some+in_default-lowest_choice, in_default}
 
 pub offset_bounds-lists-tail : goal.offset_bounds-lists-tail
 offset_bounds-lists-tail g c =
@@ -38,14 +38,14 @@ loop-e-preserved g c =
     let lists = c.args.lists.now in
     let left = point c.args.left.now in
     elim c.match-entering.branch [
-      | in-Some+in-default-lowest_choice w ↦
+      | in-Some+in_default-lowest_choice w ↦
           let arc = segment_arc w.in-Some.segment in
           let list = get_or lists arc.tail w.index-lists-tail.result in
           let low = tail_low (g.S.Source.ruled c.args.source.now) c.loop-e.e arc w.in-Some.ensures.stands in
           let room : length c.args.lists.now ≡ 128 = search rules in
           let read = list_read lists arc.tail w.index-lists-tail.result (omega (arith, low)) in
-          pass_unchosen N lists c.args.v left c.loop-e.e arc (corner_list list) w.in-Some.ensures.stands read w.in-default-lowest_choice.ensures c.loop-e.invariant
-      | in-default w ↦ passed N lists c.args.v left c.loop-e.e w.in-default.ensures c.loop-e.invariant
+          pass_unchosen N lists c.args.v left c.loop-e.e arc (corner_list list) w.in-Some.ensures.stands read w.in_default-lowest_choice.ensures c.loop-e.invariant
+      | in_default w ↦ passed N lists c.args.v left c.loop-e.e w.in_default.ensures c.loop-e.invariant
     ]
 
 pub returns : goal.returns

@@ -7,4 +7,8 @@ use Rattle.grids.proofs.grid.Grid.joined.Goals as goal
 pub invariant_of-result-2 : goal.invariant_of-result-2
 invariant_of-result-2 c =
     let g = c.args.self.now in
-    (g.some, (g.few, (subst Ranged (sym c.raise-sizes.ensures.raised) (plus_ranged c.args.extra (grid_sizes g) c.requires g.ranged), tt)))
+    record {
+      some = g.some;
+      few = g.few;
+      ranged = subst Ranged (sym c.raise-sizes.ensures.raised) (plus_ranged c.args.extra (grid_sizes g) c.requires g.ranged);
+    }

@@ -23,7 +23,7 @@ loop-k-init c =
     let l = c.args.self.now in
     let w = c.args.weight.now in
     let z = c.weighted_cost in
-    cheapest_one (corner_list l) (pair w) _ (costs_k l w 0 c.index-self-0.result z.result (omega arith) z.type-inv z.ensures)
+    cheapest_one (corner_list l) (pair w) _ (costs_k l w 0 c.index-self-0.result z.result (omega arith) z.type_inv z.ensures)
 
 pub loop-k-preserved : goal.loop-k-preserved
 loop-k-preserved c =
@@ -31,7 +31,7 @@ loop-k-preserved c =
     let w = c.args.weight.now in
     let now = c.loop-k in
     let z = c.weighted_cost-least in
-    let e = costs_k l w now.k c.index-self-k.result z.result c.loop-k-test.true z.type-inv z.ensures in
+    let e = costs_k l w now.k c.index-self-k.result z.result c.loop-k-test.true z.type_inv z.ensures in
     elim c.if-below.branch [
       | then-below t ↦ let b = t.best-is in simp b (cheapest_took (corner_list l) (pair w) now.k now.best.least now.best.corner now.invariant _ e (c.below.ensures.yes t.if-below.true))
       | else-below t ↦ let b = t.best-is in simp b (cheapest_kept (corner_list l) (pair w) now.k now.best.least now.best.corner now.invariant _ e (c.below.ensures.no t.if-below.false))

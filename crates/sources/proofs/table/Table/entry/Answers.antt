@@ -13,7 +13,7 @@ lawful t e d h = subst (LawfulRecord t.nodes) (sym (read t e d h)) (entry_lawful
 pub invariant_of-result : goal.invariant_of-result
 invariant_of-result c =
     let h = lawful c.args.self.now c.args.e c.index-self-e.result c.requires in
-    (h.counted.0, (h.counted.1, (h.ranged, tt)))
+    record { some = h.counted.0; few = h.counted.1; ranged = h.ranged }
 
 pub returns : goal.returns
 returns c =
