@@ -6,17 +6,17 @@ use Rattle.corner_report.proofs.reckoning.reckon.Goals as goal
 
 pub invariant_of-result : goal.invariant_of-result
 invariant_of-result c =
-    let entered = c.in-ok-corners.ensures in
-    let few = few_corners c.in-ok-plan.plan.state.lists c.args.header.target in
-    (omega (arith, entered.1), (entered.0, (c.requires.weighed.0, (c.in-ok-lines.ensures.room, tt))))
+    let entered = c.in_ok-corners.ensures in
+    let few = few_corners c.in_ok-plan.plan.state.lists c.args.header.target in
+    (omega (arith, entered.1), (entered.0, (c.requires.weighed.0, (c.in_ok-lines.ensures.room, tt))))
 
 pub returns : goal.returns
 returns c =
-    let plan = c.in-ok-plan.plan in
-    let planned = c.in-ok-plan.ensures in
-    let entered = c.in-ok-corners.ensures in
+    let plan = c.in_ok-plan.plan in
+    let planned = c.in_ok-plan.ensures in
+    let entered = c.in_ok-corners.ensures in
     record {
       headed = refl;
-      answers = answered (listed c.args.header.nodes c.args.records.now) (table_network plan.source) (planned.settled.source_is ∙ c.in-ok-fill.ensures.holds) c.args.header plan (over_own _ c.args.header plan planned)
-          c.args.weights.now _ entered.1 entered.2 refl c.in-ok-lines.ensures;
+      answers = answered (listed c.args.header.nodes c.args.records.now) (table_network plan.source) (planned.settled.source_is ∙ c.in_ok-fill.ensures.holds) c.args.header plan (over_own _ c.args.header plan planned)
+          c.args.weights.now _ entered.1 entered.2 refl c.in_ok-lines.ensures;
     }

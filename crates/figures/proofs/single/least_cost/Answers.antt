@@ -7,7 +7,7 @@ use Rattle.figures.proofs.single.least_cost.Goals as goal
 pub returns-in-Some : goal.returns-in-Some
 returns-in-Some g c =
     let network = g.S.Source.network c.args.source.now in
-    let found = c.in-ok-least_costs.ensures.holds_each_least_cost in
+    let found = c.in_ok-least_costs.ensures.holds_each_least_cost in
     let cells = c.least_costs.new.sheet.cells.now in
     let here = c.in-Some.ensures in
     let inside = c.nodes.ensures in

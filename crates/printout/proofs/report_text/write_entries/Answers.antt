@@ -14,7 +14,7 @@ loop-entry-preserved g c = λ plain.
     has_written_of_eq g.W.Write.write_str_gives _ _ _ _
     (ap (λ (e : Entry). entries_text (take i xs) ++ (entry_text e ++ codes "\n")) c.entry-item.is
     ∙ text_more (λ (e : Entry). entry_text e ++ codes "\n") entries_text refl (λ x xs. refl) xs i c.entry-item.result c.loop-entry-test.true)
-    (has_written_append g.W.Write.write_str_gives _ _ _ _ _ before (c.write.ensures.writes before.plain (ap is_ok c.in-ok-write.was)))
+    (has_written_append g.W.Write.write_str_gives _ _ _ _ _ before (c.write.ensures.writes before.plain (ap is_ok c.in_ok-write.was)))
 
 pub returns : goal.returns
 returns g c = λ plain _.

@@ -10,7 +10,7 @@ pub loop-line-preserved : goal.loop-line-preserved
 loop-line-preserved g c = λ plain.
     let before = c.loop-line.invariant plain in
     has_written_of_eq g.W.Write.write_str_gives _ _ _ _ (text_more (λ (l : WeightLine). weight_text l ++ codes "\n") lines_text refl (λ x xs. refl) c.args.lines.now c.loop-line.line-index _ c.loop-line-test.true)
-    (has_written_append g.W.Write.write_str_gives _ _ _ _ _ before (c.write.ensures.writes before.plain (ap is_ok c.in-ok-write.was)))
+    (has_written_append g.W.Write.write_str_gives _ _ _ _ _ before (c.write.ensures.writes before.plain (ap is_ok c.in_ok-write.was)))
 
 pub returns : goal.returns
 returns g c = λ plain _.

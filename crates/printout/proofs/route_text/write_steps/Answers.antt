@@ -9,7 +9,7 @@ pub loop-step-preserved : goal.loop-step-preserved
 loop-step-preserved g c = λ plain.
     let before = c.loop-step.invariant plain in
     has_written_of_eq g.W.Write.write_str_gives _ _ _ _ (text_more step_text steps_text refl (λ x xs. refl) c.args.steps.now c.loop-step.step-index _ c.loop-step-test.true)
-    (has_written_append g.W.Write.write_str_gives _ _ _ _ _ before (c.write.ensures.writes before.plain (ap is_ok c.in-ok-write.was)))
+    (has_written_append g.W.Write.write_str_gives _ _ _ _ _ before (c.write.ensures.writes before.plain (ap is_ok c.in_ok-write.was)))
 
 pub returns : goal.returns
 returns g c = λ plain _.

@@ -8,7 +8,7 @@ use Rattle.rehearsals.proofs.asking.number_of_routes.Goals as goal
 pub returns-in-Some : goal.returns-in-Some
 returns-in-Some g c x holds same here =
     let N = g.S.Source.network c.args.source.now in
-    let found = c.in-ok-count_routes.ensures.holds_the_number_of_routes in
+    let found = c.in_ok-count_routes.ensures.holds_the_number_of_routes in
     let cells = c.count_routes.new.sheet.cells.now in
     let tally = c.in-Some.tally.now in
     let read = c.in-Some.ensures in

@@ -4,4 +4,4 @@ use Rattle.samples.proofs.Held.{drawn_holds}
 use Rattle.rehearsals.proofs.tables.count_drawn.Goals as goal
 
 pub returns : goal.returns
-returns c = c.number_of_routes.ensures drawn drawn_holds (sym c.in-ok-drawn_table.ensures) refl
+returns c = c.number_of_routes.ensures drawn drawn_holds (sym c.in_ok-drawn_table.ensures) refl

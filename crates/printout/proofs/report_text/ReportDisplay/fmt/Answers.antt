@@ -5,8 +5,8 @@ use Rattle.printout.proofs.report_text.ReportDisplay.fmt.Goals as goal
 
 pub returns-clause-writes : goal.returns-clause-writes
 returns-clause-writes g c = λ plain ok.
-    let head = c.write.ensures.writes plain (ap is_ok c.in-ok-write.was) in
-    let corners = c.write_entries.ensures head.plain (ap is_ok c.in-ok-write_entries.was) in
+    let head = c.write.ensures.writes plain (ap is_ok c.in_ok-write.was) in
+    let corners = c.write_entries.ensures head.plain (ap is_ok c.in_ok-write_entries.was) in
     let weights = c.write_lines.ensures corners.plain ok in
     has_written_of_eq g.W.Write.write_str_gives _ _ _ _
     (λ i. ((heading_text c.args.self.now.heading ++ codes "\n") ++ entries_text (c.cornered.ensures i)) ++ lines_text (c.weighed.ensures i))
