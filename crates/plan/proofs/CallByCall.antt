@@ -82,9 +82,10 @@ module _ (N : Network) (σ : State) (calls : List Call) (old : List Step) (befor
   )
 
 pub beginnings_right : BeginningsRight
-beginnings_right N p calls old answers new h zero = (old, (refl, refl))
+beginnings_right N p [] old answers new h zero = (old, (refl, refl))
 beginnings_right N p [] old answers new h (suc k) = (new, (ap (take (suc k)) h.0, h.1))
-beginnings_right N p (c ∷ calls) old [] new h (suc k) = absurd h
-beginnings_right N p (c ∷ calls) old (a ∷ answers) new (between, (first, rest)) (suc k) =
-    let more = beginnings_right N (after_call p c a) calls between answers new rest k in
-    (more.0, (between, (first, more.1)))
+beginnings_right N p (c ∷ calls) old [] new h k = absurd h
+beginnings_right N p (c ∷ calls) old (a ∷ answers) new h zero = (old, (refl, refl))
+beginnings_right N p (c ∷ calls) old (a ∷ answers) new h (suc k) =
+    let more = beginnings_right N (after_call p c a) calls h.0 answers new h.1.1 k in
+    (more.0, (h.0, (h.1.0, more.1)))
