@@ -8,7 +8,7 @@ pub invariant_of-result : goal.invariant_of-result
 invariant_of-result c =
     let entered = c.in_ok-corners.ensures in
     let few = few_corners c.in_ok-plan.plan.state.lists c.args.header.target in
-    (omega (arith, entered.1), (entered.0, (c.requires.weighed.0, (c.in_ok-lines.ensures.room, tt))))
+    record { few_corners = omega (arith, entered.1); corner_room = entered.0; few_weights = c.requires.weighed.0; weight_room = c.in_ok-lines.ensures.room }
 
 pub returns : goal.returns
 returns c =
