@@ -1,5 +1,5 @@
 -- The joins over the three sorts of routes, from the values that a run computes with. Assumes nothing.
-use Rattle.std.proofs.Common.{◌≡◌, ℕ, suc, List, map, length, Some, sym, ap, ◌∙◌, subst}
+use Rattle.std.proofs.Common.{◌≡◌, ℕ, suc, List, map, length, Some, sym, subst}
 use Rattle.network.specs.declared.step.Step.{Step}
 use Rattle.network.specs.Networks.{Network, Arc, Ruled, at}
 use Rattle.network.specs.Routes.{Route}

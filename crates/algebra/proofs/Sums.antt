@@ -1,8 +1,7 @@
 -- What a node gathers from one more segment. Assumes nothing.
-use Rattle.std.proofs.Common.{◌≡◌, ℕ, zero, suc, ◌+◌, ◌<◌, ◌≤◌, Bool, true, false, cond, eqb, ◌≢◌, List, [], ◌∷◌, ◌++◌, map, length, get_or, take, drop, Some, None, Option, sym, refl, ap, ◌∙◌, subst, append_assoc, append-nil, add-zero, zero-add, arith, drop-cons, eq-eqb, ne_eqb, eqb-true}
+use Rattle.std.proofs.Common.{◌≡◌, ℕ, zero, suc, ◌+◌, ◌<◌, ◌≤◌, Bool, true, false, cond, eqb, ◌≢◌, List, [], ◌∷◌, ◌++◌, map, length, get_or, take, drop, Some, None, Option, sym, refl, ap, ◌∙◌, append_assoc, append-nil, add-zero, zero-add, arith, drop-cons, eq-eqb, ne_eqb, eqb-true}
 use Rattle.std.proofs.lemmas.List.{take_more, take_all, drop_all, length-map, length-take, map-append, get_or-map}
 use Rattle.network.specs.declared.step.Step.{Step}
-use Rattle.network.specs.Choices.{choice}
 use Rattle.network.specs.Networks.{Network, Arc, Ruled, at}
 use Rattle.algebra.specs.Semirings.{Algebra, Semiring}
 use Rattle.algebra.specs.Values.{joined, arc_letter, word}

@@ -1,25 +1,19 @@
 -- What a plan answers of the target that it has settled, said of the target's corner list. Assumes nothing.
-use Rattle.std.proofs.Common.{◌≡◌, ℕ, ◌+◌, ◌<◌, ◌≤◌, List, [], ◌∷◌, ◌++◌, length, take, drop, Some, None, Ok, Err, Option, sym, refl, ap, ◌∙◌, subst, inl, inr, arith}
+use Rattle.std.proofs.Common.{◌≡◌, ℕ, ◌+◌, ◌<◌, List, length, take, drop, Some, Ok, Err, sym, ap, ◌∙◌, subst, inl, inr, arith}
 use Rattle.std.proofs.lemmas.List.{take_at}
-use Rattle.network.specs.declared.cost.Cost.{Cost}
 use Rattle.network.specs.declared.fault.Fault.{Fault}
 use Rattle.network.specs.declared.fault.Place.TheVariants.{At}
 use Rattle.network.specs.declared.step.Step.{Step}
-use Rattle.network.specs.declared.way.Ray.{Ray}
-use Rattle.network.specs.declared.weight.Weight.{Weight}
-use Rattle.network.specs.Costs.{LawfulWeight, point}
 use Rattle.network.specs.Faults.{listed}
 use Rattle.network.specs.Networks.{Network, Ruled}
 use Rattle.network.proofs.Routes.{route_short}
 use Rattle.geometry.specs.Plane.{Pt}
-use Rattle.figures.specs.Leasts.{LeastCost}
 use Rattle.corners.specs.CornerLists.{CornersOf}
 use Rattle.corners.proofs.OneList.{one_corner_list}
 use Rattle.sources.specs.declared.table.Table.{Table}
 use Rattle.takeoff.specs.declared.header.Header.{Header}
-use Rattle.polygons.specs.declared.cheapest.Cheapest.{Cheapest}
 use Rattle.plan.specs.declared.plan.Plan.{Plan}
-use Rattle.plan.specs.Answers.{corner_at, Settled, Refused, NoNode, BadWeight, NotStarted, NotSettled, NoCorner, ConeOf, CheapestIs, RouteTo, Written, TooLong, CountAnswer, CornerAnswer, ConeAnswer, CheapestAnswer, RouteAnswer}
+use Rattle.plan.specs.Answers.{Settled, Refused, NoNode, BadWeight, NotStarted, NotSettled, NoCorner, RouteTo, CountAnswer, CornerAnswer, ConeAnswer, RouteAnswer}
 use Rattle.plan.specs.Progress.{Progress}
 use Rattle.plan.specs.Standing.{progress}
 use Rattle.corner_report.specs.Planned.{Planned, target_list}

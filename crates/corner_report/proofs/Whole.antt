@@ -8,7 +8,7 @@ use Rattle.network.specs.declared.record.Record.{Record}
 use Rattle.network.specs.declared.weight.Weight.{Weight}
 use Rattle.network.specs.Costs.{LawfulWeight}
 use Rattle.network.specs.Networks.{Network, Arc, arc}
-use Rattle.network.specs.Records.{Counted, LawfulRecord}
+use Rattle.network.specs.Records.{Counted}
 use Rattle.sources.specs.Filling.{Accepted}
 use Rattle.sources.specs.Listed.{entry}
 use Rattle.sources.specs.Tables.{listed, table_network}

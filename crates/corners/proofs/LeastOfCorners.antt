@@ -1,11 +1,9 @@
 -- The least cost over the corners of a node is the least over its routes. Assumes nothing.
-use Rattle.std.proofs.Common.{◌≡◌, ℕ, ◌<◌, List, [], ◌∷◌, map, length, ℤ, ◌≤ℤ◌, Some, None, Option, sym, refl, ap, ◌∙◌, subst, arith}
-use lib.Signed.{≤ℤ_refl}
-use Rattle.network.specs.declared.step.Step.{Step}
+use Rattle.std.proofs.Common.{◌≡◌, ℕ, ◌<◌, List, [], ◌∷◌, map, length, ℤ, ◌≤ℤ◌, Some, None, sym, refl, ap, ◌∙◌, subst, arith}
 use Rattle.network.specs.declared.weight.Weight.{Weight}
 use Rattle.network.specs.Costs.{weigh}
 use Rattle.network.specs.Networks.{Network, Ruled}
-use Rattle.network.specs.Routes.{Route, route_cost}
+use Rattle.network.specs.Routes.{Route}
 use Rattle.algebra.specs.Values.{IsJoin}
 use Rattle.algebra.proofs.Exact.{routes_listed}
 use Rattle.geometry.specs.Cones.{Attains}

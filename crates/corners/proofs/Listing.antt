@@ -1,5 +1,5 @@
 -- The corner list that a run leaves at a node is that of its routes. Assumes nothing.
-use Rattle.std.proofs.Common.{◌≡◌, ℕ, zero, suc, ◌<◌, ◌⊎◌, List, [], ◌∷◌, map, get_or, ◌<ℤ◌, Ok, Err, Result, sym, refl, ap, ◌∙◌, subst, inl, inr, ⊎_elim, arith}
+use Rattle.std.proofs.Common.{◌≡◌, ℕ, zero, suc, List, [], ◌∷◌, map, get_or, ◌<ℤ◌, Ok, Err, Result, sym, refl, ap, ◌∙◌, subst, inl, inr, ⊎_elim, arith}
 use Rattle.network.specs.declared.fault.Fault.{Fault}
 use Rattle.network.specs.declared.fault.Place.{Place}
 use Rattle.network.specs.declared.fault.Place.TheVariants.{At, During}
@@ -12,9 +12,8 @@ use Rattle.network.specs.Networks.{Network, Ruled}
 use Rattle.network.specs.Routes.{Route, AloneCheapest, route_cost}
 use Rattle.algebra.specs.Lists.{Exactly}
 use Rattle.algebra.specs.Lists as lists
-use Rattle.algebra.specs.Values.{IsJoin}
 use Rattle.algebra.proofs.Exact.{routes_listed}
-use Rattle.geometry.specs.Exposed.{ExposedWithin, weight_range, cost_range}
+use Rattle.geometry.specs.Exposed.{cost_range}
 use Rattle.geometry.specs.Plane.{Pt, In, Near, dot}
 use Rattle.geometry.specs.Polygons.{Polygon as Rounded}
 use Rattle.geometry.specs.Support.{support, never}

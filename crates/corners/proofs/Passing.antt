@@ -1,6 +1,6 @@
 -- Where all results of a node fit, every run gets past it; where one is the first that does not, every run stops there.
 -- Assumes nothing.
-use Rattle.std.proofs.Common.{◌≡◌, ℕ, zero, suc, ◌<◌, ◌≤◌, ◌⊎◌, List, [], ◌∷◌, length, get_or, Some, None, Ok, Err, Option, Result, sym, refl, ap, ◌∙◌, subst, inl, inr, ⊎_elim, arith}
+use Rattle.std.proofs.Common.{◌≡◌, ℕ, zero, suc, ◌<◌, ◌≤◌, List, [], ◌∷◌, length, get_or, Some, None, Ok, Err, Option, sym, refl, ◌∙◌, subst, arith}
 use Rattle.network.specs.declared.fault.Fault.{Fault}
 use Rattle.network.specs.declared.fault.Place.TheVariants.{During}
 use Rattle.network.specs.declared.fault.Stage.{Stage}
@@ -9,9 +9,8 @@ use Rattle.network.specs.Faults.{listed}
 use Rattle.network.specs.Networks.{Network, Arc, Ruled, at}
 use Rattle.algebra.specs.Semirings.{Algebra}
 use Rattle.algebra.proofs.Exact.{extended_listed, through_listed}
-use Rattle.polygons.specs.declared.polygon.Polygon.{Polygon}
-use Rattle.polygons.specs.Fits.{hulls, costs}
-use Rattle.runs.specs.Runs.{SegmentFits, AllFit, Stuck, Stops, Ran, NoStart, ShortSheet, RunStops}
+use Rattle.polygons.specs.Fits.{hulls}
+use Rattle.runs.specs.Runs.{SegmentFits, AllFit, Stuck, Stops, NoStart, ShortSheet, RunStops}
 use Rattle.corners.specs.Passing.{GotPast, StoppedBy, EveryRun}
 
 -- a segment that is present has a number below the length of the list

@@ -2,7 +2,6 @@
 use Rattle.std.proofs.Common.{ℕ, ◌*◌, List, [], ◌∷◌, length, sym, subst, arith}
 use Rattle.std.proofs.lemmas.Int.{ints}
 use Rattle.network.specs.declared.step.Step.{Step}
-use Rattle.network.specs.Choices.{InRange}
 use Rattle.network.specs.Networks.{Network, Ruled}
 use Rattle.network.specs.Ranges.{Within}
 use Rattle.network.specs.Routes.{Leads, Route, arc_cost, route_cost, step_cost}

@@ -1,12 +1,12 @@
 -- The join over routes in the algebra of hulls is the least cost over their costs, at every weight. Assumes nothing.
-use Rattle.std.proofs.Common.{◌≡◌, ℕ, List, [], ◌∷◌, map, Option, sym, refl, ap, ◌∙◌, subst, inl, inr}
+use Rattle.std.proofs.Common.{◌≡◌, ℕ, List, [], ◌∷◌, map, Option, sym, refl, ◌∙◌, subst, inl, inr}
 use Rattle.network.specs.declared.step.Step.{Step}
 use Rattle.network.specs.Networks.{Network, Arc, at}
 use Rattle.network.specs.Routes.{Leads, Route, arc_cost, route_cost, step_cost}
 use Rattle.algebra.specs.Lists.{In}
 use Rattle.algebra.specs.Values.{joined, word, arc_letter}
 use Rattle.geometry.specs.Plane.{Pt}
-use Rattle.geometry.specs.Support.{Costs, support, join, chain}
+use Rattle.geometry.specs.Support.{support, join, chain}
 use Rattle.geometry.proofs.Results.{free_support}
 use Rattle.geometry.proofs.Semiring.{append_support}
 use Rattle.geometry.proofs.Sums.{sums_support}

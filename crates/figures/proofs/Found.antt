@@ -11,7 +11,7 @@ use Rattle.kinds.specs.declared.amount.Amount.{Amount}
 use Rattle.kinds.specs.declared.tally.Tally.{Tally}
 use Rattle.kinds.specs.Leasts.{leasts, amount}
 use Rattle.kinds.specs.Counts.{counts, cut, tallied}
-use Rattle.runs.specs.Runs.{Stops, Ran, RunRefused, NoStart, ShortSheet, RunStops}
+use Rattle.runs.specs.Runs.{Stops, Ran, NoStart, ShortSheet, RunStops}
 use Rattle.figures.specs.Leasts as of-costs
 use Rattle.figures.specs.Leasts.{LeastsFound}
 use Rattle.figures.specs.Counts as of-counts

@@ -1,5 +1,5 @@
 -- A run of the least kind finishes: each node's least cost fits, and so does every result on the way. Assumes nothing.
-use Rattle.std.proofs.Common.{◌≡◌, ℕ, zero, suc, ◌+◌, ◌<◌, ◌≤◌, List, length, set, ℤ, Some, None, Option, refl, ◌∙◌, subst, arith, length-set}
+use Rattle.std.proofs.Common.{◌≡◌, ℕ, zero, suc, ◌+◌, ◌≤◌, List, length, set, ℤ, Some, None, Option, refl, ◌∙◌, subst, arith, length-set}
 use Rattle.network.specs.declared.weight.Weight.{Weight}
 use Rattle.network.specs.Costs.{LawfulWeight}
 use Rattle.network.specs.Networks.{Network, Ruled}

@@ -4,7 +4,7 @@ use Rattle.std.proofs.Common.{ap, sym, ◌∙◌, inl, inr, mul_comm, mul_assoc,
 use mathlib.Core.HLevel.{Σ_prop_path}
 use Rattle.std.proofs.Math.Bridge.{le_prop}
 use Rattle.algebra.specs.Semirings.{Semiring, Fitting}
-use Rattle.kinds.specs.Counts.{Counted, counts, cut, tallied}
+use Rattle.kinds.specs.Counts.{Counted, counts, tallied}
 
 unfoldable capped : ℕ → ℕ
 capped n = min n 1000000

@@ -1,5 +1,5 @@
 -- A lawful record is a segment of a network. Assumes nothing.
-use Rattle.std.proofs.Common.{◌≡◌, ℕ, ◌<◌, length, arith}
+use Rattle.std.proofs.Common.{◌≡◌, ℕ, length, arith}
 use Rattle.std.proofs.lemmas.List.{length-take}
 use Rattle.network.specs.declared.record.Record.{Record}
 use Rattle.network.specs.Choices.{choices}

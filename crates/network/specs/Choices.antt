@@ -1,5 +1,5 @@
 -- The choices of a segment, as a list of stock sizes. Assumes nothing.
-use Rattle.std.specs.Prelude.{◌≡◌, ℕ, ◌<◌, List, length, take, pos, ◌≢◌, slice_index_or}
+use Rattle.std.specs.Prelude.{ℕ, ◌<◌, List, length, take, pos, ◌≢◌, slice_index_or}
 use Rattle.network.specs.declared.size.Size.{Size}
 use Rattle.network.specs.declared.record.Record.{Record}
 use Rattle.network.specs.Ranges.{Within}

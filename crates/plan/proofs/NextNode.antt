@@ -1,5 +1,5 @@
 -- What settling a node answers. Assumes nothing.
-use Rattle.std.proofs.Common.{◌≡◌, ℕ, ◌<◌, ◌≤◌, length, Some, Ok, Err, Result, inl, inr, arith, below_more}
+use Rattle.std.proofs.Common.{◌≡◌, ℕ, ◌<◌, length, Some, Ok, Err, Result, inl, inr, arith, below_more}
 use Rattle.network.specs.declared.fault.Fault.{Fault}
 use Rattle.network.specs.Networks.{Network, Ruled}
 use Rattle.polygons.specs.declared.polygon.Polygon.{Polygon}

@@ -1,7 +1,6 @@
 -- What a plan that stands answers of a settled node. Assumes nothing.
-use Rattle.std.proofs.Common.{◌≡◌, ℕ, ◌<◌, ◌≤◌, List, [], map, length, get_or, Some, None, Ok, Err, sym, refl, ap, ◌∙◌, subst, arith}
+use Rattle.std.proofs.Common.{ℕ, ◌<◌, List, [], length, sym, refl, ap, ◌∙◌, subst, arith}
 use Rattle.std.proofs.lemmas.List.{get_or-map}
-use Rattle.network.specs.declared.cost.Cost.{Cost}
 use Rattle.network.specs.declared.fault.Fault.{Fault}
 use Rattle.network.specs.declared.fault.Fault.TheVariants as fault
 use Rattle.network.specs.declared.way.Ray.{Ray}
@@ -10,19 +9,18 @@ use Rattle.network.specs.Costs.{LawfulWeight}
 use Rattle.network.specs.Networks.{Network, Ruled}
 use Rattle.network.specs.Routes.{Route}
 use Rattle.algebra.specs.Values.{IsJoin}
-use Rattle.geometry.specs.Plane.{Pt, nth}
+use Rattle.geometry.specs.Plane.{Pt}
 use Rattle.geometry.specs.Support.{never}
 use Rattle.polygons.specs.declared.cheapest.Cheapest.{Cheapest}
 use Rattle.polygons.specs.declared.polygon.Polygon.{Polygon}
 use Rattle.polygons.specs.Cheapest.{pair, CheapestAt}
 use Rattle.polygons.specs.Corners.{corner_list}
 use Rattle.polygons.specs.Fits.{hulls, costs}
-use Rattle.polygons.specs.Points.{place}
 use Rattle.polygons.specs.Rays.{Cone}
-use Rattle.corners.specs.CornerLists.{cost_at, CornersOf}
-use Rattle.corners.proofs.LeastOfCorners.{cheapest_least, attains_least, least_attains, no_corner_no_route, runs_hold}
+use Rattle.corners.specs.CornerLists.{CornersOf}
+use Rattle.corners.proofs.LeastOfCorners.{cheapest_least, attains_least, least_attains, runs_hold}
 use Rattle.plan.specs.declared.state.State.{State}
-use Rattle.plan.specs.Answers.{Settled, Refused, NoNode, BadWeight, NotStarted, NotSettled, NoCorner, ConeOf, CheapestIs, CountAnswer, CornerAnswer, ConeAnswer, CheapestAnswer}
+use Rattle.plan.specs.Answers.{Settled, Refused, NoNode, BadWeight, NotStarted, NotSettled, NoCorner, ConeOf, CheapestIs}
 use Rattle.plan.specs.Lists.{Held}
 use Rattle.plan.specs.Progress.{Progress}
 use Rattle.plan.specs.Standing.{progress, Stands}

@@ -1,20 +1,19 @@
 -- The route that working back finds is what a plan answers. Assumes nothing.
-use Rattle.std.proofs.Common.{◌≡◌, ℕ, suc, ◌+◌, ◌-◌, ◌<◌, ◌≤◌, List, [], ◌∷◌, ◌++◌, length, drop, Some, Ok, Err, Result, sym, refl, ap, ◌∙◌, subst, inl, inr, arith, length-append, length-drop, MatchResult}
+use Rattle.std.proofs.Common.{◌≡◌, ℕ, suc, ◌+◌, ◌-◌, ◌≤◌, List, [], ◌∷◌, ◌++◌, length, drop, Some, Ok, Err, Result, sym, refl, ap, ◌∙◌, subst, inr, arith, length-append, length-drop, MatchResult}
 use Rattle.network.specs.declared.cost.Cost.{Cost}
 use Rattle.network.specs.declared.fault.Fault.{Fault}
 use Rattle.network.specs.declared.step.Step.{Step}
 use Rattle.network.specs.Costs.{Point, point}
 use Rattle.network.specs.Networks.{Network, Ruled}
-use Rattle.network.specs.Routes.{route_cost}
 use Rattle.geometry.specs.Plane.{Pt, nth}
 use Rattle.geometry.proofs.Members.{in_nth}
 use Rattle.polygons.specs.declared.polygon.Polygon.{Polygon}
 use Rattle.corners.specs.CornerLists.{Corner, Cornered}
-use Rattle.traceback.specs.Tracing.{Listed, TracedRoute, TraceRefused, NoNode, Stuck, ShortPlace, Traced}
+use Rattle.traceback.specs.Tracing.{Listed, TracedRoute, NoNode, Stuck, ShortPlace, Traced}
 use Rattle.traceback.specs.WorkingBack.{WorksBack}
 use Rattle.traceback.proofs.InNetwork.{in_network}
 use Rattle.plan.specs.declared.state.State.{State}
-use Rattle.plan.specs.Answers.{corner_at, RouteTo, Written, TooLong, Settled, Refused, CornerAnswer, RouteAnswer}
+use Rattle.plan.specs.Answers.{corner_at, RouteTo, Written, TooLong, Settled, CornerAnswer, RouteAnswer}
 use Rattle.plan.specs.Standing.{progress, Stands}
 
 drop_front : {X : Type 0} (xs ys : List X) → drop (length xs) (xs ++ ys) ≡ ys

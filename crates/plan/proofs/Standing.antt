@@ -1,5 +1,5 @@
 -- How a plan comes to stand, and goes on standing. Assumes nothing.
-use Rattle.std.proofs.Common.{◌≡◌, ℕ, zero, suc, ◌+◌, ◌<◌, ◌≤◌, ◌≢◌, List, [], ◌∷◌, map, length, get_or, set, replicate, pos, Some, None, Option, sym, refl, ap, ◌∙◌, subst, arith, below_more}
+use Rattle.std.proofs.Common.{◌≡◌, ℕ, zero, suc, ◌+◌, ◌<◌, ◌≢◌, List, [], ◌∷◌, map, length, get_or, set, replicate, pos, Some, None, sym, refl, ap, ◌∙◌, subst, arith, below_more}
 use Rattle.std.proofs.lemmas.List.{map-set, length-map, get_or-set_same, get_or-set_other}
 use Rattle.network.specs.Networks.{Network, Ruled}
 use Rattle.network.specs.Routes.{Route}
@@ -14,8 +14,7 @@ use Rattle.runs.specs.Runs.{AllFit, Below}
 use Rattle.corners.proofs.Listing.{corners_below}
 use Rattle.traceback.specs.Tracing.{list_of}
 use Rattle.plan.specs.declared.state.State.{State}
-use Rattle.plan.specs.Progress.{Progress}
-use Rattle.plan.specs.Standing.{progress, Stands}
+use Rattle.plan.specs.Standing.{Stands}
 
 -- a list without a least cost is empty
 never_empty : (ps : List Pt) → support ps ≡ never → ps ≡ []

@@ -1,5 +1,5 @@
 -- The corner lists of a plan, for its inner functions. Assumes nothing.
-use Rattle.std.specs.Prelude.{◌≡◌, ℕ, ◌<◌, ◌≤◌, length, Some, None, Ok, Err, Result, slice_index_or}
+use Rattle.std.specs.Prelude.{◌≡◌, ℕ, ◌<◌, length, Some, Ok, Err, Result, slice_index_or}
 use Rattle.network.specs.declared.fault.Fault.{Fault}
 use Rattle.network.specs.Networks.{Network}
 use Rattle.network.specs.Routes.{Route}

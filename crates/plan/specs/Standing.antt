@@ -1,5 +1,5 @@
 -- What a plan holds that its own calls have made. Assumes nothing.
-use Rattle.std.specs.Prelude.{◌≡◌, ℕ, ◌<◌, ◌≤◌, List, [], length, Some, None}
+use Rattle.std.specs.Prelude.{◌≡◌, ℕ, ◌<◌, ◌≤◌, [], length, Some, None}
 use Rattle.network.specs.Networks.{Network}
 use Rattle.polygons.specs.Fits.{hulls, costs}
 use Rattle.runs.specs.Runs.{AllFit, Below}

@@ -1,10 +1,10 @@
 -- Where all results fit, nothing stops a run. Assumes nothing.
-use Rattle.std.proofs.Common.{◌≡◌, ℕ, ◌<◌, length, Some, None, Option, sym, ◌∙◌, inl, inr, arith}
+use Rattle.std.proofs.Common.{◌≡◌, ℕ, length, Some, None, sym, ◌∙◌, inl, inr, arith}
 use Rattle.std.proofs.lemmas.List.{get_or_past}
 use Rattle.std.proofs.lemmas.Bool.{cases_lt}
 use Rattle.network.specs.declared.fault.Stage.{Stage}
 use Rattle.network.specs.declared.fault.Stage.TheVariants as stage
-use Rattle.network.specs.Networks.{Arc, Network, Ruled, at}
+use Rattle.network.specs.Networks.{Arc, Network, Ruled}
 use Rattle.algebra.specs.Semirings.{Algebra}
 use Rattle.algebra.proofs.Exact.{extended_listed, through_listed}
 use Rattle.runs.specs.Runs.{AllFit, SegmentFits, Stops, Stuck}

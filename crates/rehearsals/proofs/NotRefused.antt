@@ -1,5 +1,5 @@
 -- A plan over a sample's network settles the sample's node. Assumes nothing.
-use Rattle.std.proofs.Common.{◌≡◌, ℕ, ◌≤◌, length, Some, None, Option, sym, ap, ◌∙◌, subst, arith}
+use Rattle.std.proofs.Common.{◌≡◌, ℕ, ◌≤◌, length, Some, None, Option, sym, ap, subst, arith}
 use Rattle.network.specs.declared.fault.Fault.{Fault}
 use Rattle.network.specs.Networks.{Network}
 use Rattle.polygons.specs.Fits.{hulls}

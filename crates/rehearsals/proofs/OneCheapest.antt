@@ -1,10 +1,10 @@
 -- A weight has one least cost and one lowest corner that has it. Assumes nothing.
-use Rattle.std.proofs.Common.{◌≡◌, ℕ, ◌<◌, List, length, ℤ, ◌≤ℤ◌, ◌<ℤ◌, Some, None, Option, sym, subst, inl, inr, arith}
+use Rattle.std.proofs.Common.{◌≡◌, ℕ, ◌<◌, List, length, ℤ, ◌≤ℤ◌, ◌<ℤ◌, Some, None, Option, subst, inl, inr, arith}
 use Rattle.std.proofs.lemmas.Int.{ints}
 use Rattle.std.proofs.lemmas.Bool.{cases_order}
 use Rattle.network.specs.declared.weight.Weight.{Weight}
 use Rattle.network.specs.Networks.{Network}
-use Rattle.geometry.specs.Plane.{Pt, dot, nth}
+use Rattle.geometry.specs.Plane.{Pt}
 use Rattle.geometry.proofs.Integers.{≤ℤ_antisym}
 use Rattle.polygons.specs.declared.cheapest.Cheapest.{Cheapest}
 use Rattle.polygons.specs.Cheapest.{CheapestOf}

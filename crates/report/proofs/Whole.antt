@@ -8,7 +8,7 @@ use Rattle.network.specs.declared.record.Record.{Record}
 use Rattle.network.specs.declared.weight.Weight.{Weight}
 use Rattle.network.specs.Costs.{LawfulWeight}
 use Rattle.network.specs.Networks.{Network, Arc, arc}
-use Rattle.network.specs.Records.{Counted, LawfulRecord}
+use Rattle.network.specs.Records.{Counted}
 use Rattle.figures.specs.Leasts.{LeastRefused, LeastBadWeight, LeastNoNode}
 use Rattle.sources.specs.Filling.{Accepted}
 use Rattle.sources.specs.Listed.{entry}
@@ -16,10 +16,9 @@ use Rattle.sources.specs.Tables.{listed}
 use Rattle.takeoff.specs.declared.header.Header.{Header}
 use Rattle.takeoff.specs.Answers.{Holds, FrontCounted}
 use Rattle.takeoff.specs.Takeoff.{Contents, Empty, Drawn, Aimed, Complete, Lawful, LawfulArc, header_of, nodes_of, arcs_of, start_of, target_of, weights_of, encode}
-use Rattle.report.specs.declared.line.Line.{Line}
 use Rattle.report.specs.declared.summary.Report.{Report}
 use Rattle.report.specs.Lines.{Lined, Spoiled}
-use Rattle.report.specs.Reports.{network_of, ReportOf, Reported, Told}
+use Rattle.report.specs.Reports.{network_of, Reported, Told}
 
 -- lawful weights between nodes all have a least cost
 pub never_spoiled : (N : Network) (s t : ℕ) (weights : List Weight) (f : Fault) → s < N.nodes → t < N.nodes → All LawfulWeight weights → Spoiled N s t weights f → ⊥

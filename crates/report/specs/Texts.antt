@@ -1,5 +1,5 @@
 -- How the lines of a report are written. Assumes nothing.
-use Rattle.std.specs.Prelude.{ℕ, List, ◌++◌, ℤ, Some, None, codes, decimal, Option}
+use Rattle.std.specs.Prelude.{ℕ, List, ◌++◌, Some, None, codes, decimal, Option}
 use Rattle.std.specs.Fmt.{signed_decimal}
 use Rattle.kinds.specs.declared.amount.Amount.{Amount}
 use Rattle.report.specs.declared.heading.Heading.{Heading}

@@ -1,5 +1,5 @@
 -- What a node gathers, segment by segment. Assumes nothing.
-use Rattle.std.proofs.Common.{◌≡◌, ℕ, zero, suc, ◌+◌, ◌<◌, ◌≤◌, true, false, eqb, ◌≢◌, ◌⊎◌, List, [], ◌∷◌, map, length, get_or, Some, None, Ok, Err, Option, sym, refl, ap, ◌∙◌, subst, inl, inr, arith, below_more}
+use Rattle.std.proofs.Common.{◌≡◌, ℕ, zero, suc, ◌+◌, ◌<◌, true, false, eqb, ◌≢◌, ◌⊎◌, List, [], ◌∷◌, map, length, get_or, Some, None, Err, Option, sym, refl, ap, ◌∙◌, subst, inl, inr, arith, below_more}
 use Rattle.std.proofs.lemmas.Bool.Decides.{eqb_tells}
 use Rattle.network.specs.declared.fault.Stage.{Stage}
 use Rattle.network.specs.declared.fault.Stage.TheVariants as stage

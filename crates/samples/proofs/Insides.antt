@@ -1,5 +1,5 @@
 -- A test whether a point lies in a polygon. Assumes nothing.
-use Rattle.std.proofs.Common.{◌≡◌, ℕ, ◌<◌, Bool, true, false, not, ◌&&◌, ◌||◌, eqb, ltb, List, length, pos, ◌≤ℤ◌, sym, subst, inl, inr}
+use Rattle.std.proofs.Common.{◌≡◌, ℕ, Bool, true, not, ◌&&◌, ◌||◌, eqb, ltb, List, length, pos, ◌≤ℤ◌, subst, inl, inr}
 use lib.Signed.{le_z}
 use Rattle.std.proofs.lemmas.Bool.{and_parts, or_cases, not-true, eqb-false, ltb-true}
 use Rattle.geometry.specs.Plane.{Pt, Between, away, dot, nth, orient}

@@ -1,5 +1,5 @@
 -- A test whether a network keeps the rules. Assumes nothing.
-use Rattle.std.proofs.Common.{◌≡◌, ℕ, zero, suc, ◌<◌, Bool, true, ◌&&◌, ltb, leb, List, [], ◌∷◌, length, get_or, ℤ, pos, neg_ℤ, Some, None, Option, sym, ap, ◌∙◌, arith}
+use Rattle.std.proofs.Common.{◌≡◌, ℕ, zero, suc, Bool, true, ◌&&◌, ltb, leb, List, [], ◌∷◌, length, get_or, ℤ, pos, neg_ℤ, Some, None, Option, sym, ap, ◌∙◌, arith}
 use lib.Signed.{le_z}
 use Rattle.std.proofs.ByRecursion.{All-get_or}
 use Rattle.std.proofs.lemmas.Bool.{and_parts, leb-true, ltb-true}

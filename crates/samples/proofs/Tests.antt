@@ -1,5 +1,5 @@
 -- Tests that look at every number below a bound, or at every element of a list. Assumes nothing.
-use Rattle.std.proofs.Common.{◌≡◌, ℕ, zero, suc, ◌<◌, Bool, true, ◌&&◌, T, List, [], ◌∷◌, length, get_or, ℤ, ◌≤ℤ◌, ◌<ℤ◌, sym, subst, arith}
+use Rattle.std.proofs.Common.{◌≡◌, ℕ, zero, suc, ◌<◌, Bool, true, ◌&&◌, T, List, [], ◌∷◌, ℤ, ◌≤ℤ◌, ◌<ℤ◌, sym, subst, arith}
 use native.Mathlib.Decide.{ℕ_discrete}
 use lib.Signed.{lt_z, le_z}
 use Rattle.std.specs.List.{AllByRecursion as All}

@@ -3,10 +3,8 @@ use Rattle.std.specs.Prelude.{ℕ, List, [], ◌∷◌, ℤ, pos, negsuc, Some}
 use Rattle.network.specs.declared.size.Size.{Size}
 use Rattle.network.specs.declared.step.Step.{Step}
 use Rattle.network.specs.declared.way.Ray.{Ray}
-use Rattle.network.specs.declared.weight.Weight.{Weight}
 use Rattle.network.specs.Networks.{Arc, Network}
 use Rattle.closings.specs.Closings.{without}
-use Rattle.grids.specs.declared.cell.Cell.{Cell}
 use Rattle.grids.specs.declared.cell.Cell.TheVariants.{Open}
 use Rattle.grids.specs.Grids.{grid}
 use Rattle.takeoff.specs.Takeoff.{Contents, Aimed}

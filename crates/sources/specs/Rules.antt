@@ -1,6 +1,6 @@
 -- Every table keeps the rules of a network. Assumes nothing.
 use Rattle.std.specs.Prelude.{◌≡◌, ℕ, ◌<◌, ◌≤◌, List, map, length, take, Some, None}
-use Rattle.std.proofs.Common.{◌∙◌, sym, ap, subst, inl, inr, arith}
+use Rattle.std.proofs.Common.{◌∙◌, ap, subst, inl, inr, arith}
 use Rattle.std.proofs.lemmas.List.{get_or-map, get_or-take, get_or_past, length-map, length-take}
 use Rattle.std.proofs.lemmas.Bool.{cases_lt}
 use Rattle.network.specs.declared.record.Record.{Record}

@@ -1,10 +1,10 @@
 -- Working back has one way at most: the lowest step that serves is one, so what one way leaves, every way leaves.
 -- Assumes nothing.
-use Rattle.std.proofs.Common.{◌≡◌, ℕ, ◌<◌, ◌≤◌, ◌≢◌, ◌⊎◌, List, [], ◌∷◌, Some, sym, ap, ◌∙◌, subst, inl, inr, ⊎_elim, arith}
+use Rattle.std.proofs.Common.{◌≡◌, ℕ, ◌<◌, ◌≢◌, ◌⊎◌, List, [], ◌∷◌, sym, ap, ◌∙◌, subst, inl, inr, ⊎_elim, arith}
 use Rattle.std.proofs.lemmas.Bool.Decides.{leb_tells}
 use Rattle.network.specs.declared.step.Step.{Step}
 use Rattle.network.specs.Costs.{Point, origin, plus}
-use Rattle.network.specs.Networks.{Network, Arc, at}
+use Rattle.network.specs.Networks.{Network, Arc}
 use Rattle.network.specs.Routes.{Leads, step_cost}
 use Rattle.traceback.specs.WorkingBack.{Lower, Serves, Takes, Back}
 use Rattle.traceback.proofs.Downs.{Down}

@@ -1,5 +1,5 @@
 -- Sums of costs, and what a route with one step more costs. Assumes nothing.
-use Rattle.std.proofs.Common.{◌≡◌, List, [], ◌∷◌, ◌++◌, ℤ, ◌+ℤ◌, sym, ap, ◌∙◌, arith}
+use Rattle.std.proofs.Common.{◌≡◌, List, [], ◌∷◌, ◌++◌, ◌+ℤ◌, sym, ap, ◌∙◌, arith}
 use Rattle.network.specs.declared.step.Step.{Step}
 use Rattle.network.specs.Costs.{Point, origin, plus}
 use Rattle.network.specs.Networks.{Network}

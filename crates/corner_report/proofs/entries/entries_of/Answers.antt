@@ -1,6 +1,6 @@
-use Rattle.std.proofs.Common.{◌≡◌, ◌<◌, length, ◌∙◌, arith, length-set, rules}
+use Rattle.std.proofs.Common.{◌∙◌, arith, length-set, rules}
 use Rattle.sources.specs.Tables.{table_network}
-use Rattle.corner_report.specs.Planned.{Entered, target_list}
+use Rattle.corner_report.specs.Planned.{target_list}
 use Rattle.corner_report.proofs.AtTarget.{at_list}
 use Rattle.corner_report.proofs.OneByOne.{few_corners, entered_more}
 use Rattle.corner_report.proofs.entries.entries_of.Goals as goal

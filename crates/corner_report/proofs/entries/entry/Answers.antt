@@ -1,4 +1,4 @@
-use Rattle.std.proofs.Common.{◌≡◌, length, refl, rules}
+use Rattle.std.proofs.Common.{refl}
 use Rattle.sources.specs.Tables.{table_network}
 use Rattle.sources.specs.Rules.{table_ruled}
 use Rattle.corner_report.proofs.AtTarget.{at_list, corner_always, cone_always, route_always, route_at}

@@ -1,5 +1,5 @@
 use Rattle.sources.specs.Tables.{table_network}
-use Rattle.corner_report.proofs.AtTarget.{at_list, only_lacking}
+use Rattle.corner_report.proofs.AtTarget.{at_list}
 use Rattle.corner_report.proofs.lines.best.Goals as goal
 
 pub returns-in-Ok : goal.returns-in-Ok

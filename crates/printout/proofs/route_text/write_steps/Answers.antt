@@ -1,4 +1,4 @@
-use Rattle.std.proofs.Common.{◌++◌, is_ok, codes, refl, ap}
+use Rattle.std.proofs.Common.{is_ok, refl, ap}
 use Rattle.std.proofs.lemmas.List.{take_all}
 use Rattle.std.proofs.Output.{has_written_append, has_written_of_eq}
 use Rattle.printout.specs.Texts.{step_text, steps_text}

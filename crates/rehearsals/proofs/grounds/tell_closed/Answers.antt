@@ -1,5 +1,4 @@
 use Rattle.std.proofs.Common.{◌≡◌, [], ◌∷◌, sym, refl, ap, ◌∙◌}
-use Rattle.network.specs.Networks.{Network}
 use Rattle.closings.specs.Closings.{closing_network, without}
 use Rattle.grids.specs.Grids.{grid_network}
 use Rattle.samples.specs.Table.{closed, rows}

@@ -1,4 +1,4 @@
-use Rattle.std.proofs.Common.{◌≡◌, sym, ap, ◌∙◌, subst, arith}
+use Rattle.std.proofs.Common.{sym, ap, ◌∙◌, subst, arith}
 use Rattle.network.specs.Networks.{Network}
 use Rattle.rehearsals.specs.AtSamples.{SettledTo}
 use Rattle.rehearsals.proofs.NotRefused.{settles}

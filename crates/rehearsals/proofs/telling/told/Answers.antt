@@ -1,4 +1,4 @@
-use Rattle.std.proofs.Common.{◌≡◌, ◌+◌, sym, refl, ap, ◌∙◌, subst, arith, length-set}
+use Rattle.std.proofs.Common.{◌+◌, sym, refl, ap, ◌∙◌, subst, arith, length-set}
 use Rattle.network.specs.Networks.{Network}
 use Rattle.rehearsals.specs.AtSamples.{SettledTo}
 use Rattle.rehearsals.proofs.AtNode.{few, count_told}

@@ -1,6 +1,5 @@
-use Rattle.std.proofs.Common.{◌≡◌, sym, ap, subst, arith}
+use Rattle.std.proofs.Common.{ap, arith}
 use Rattle.network.specs.Networks.{Network}
-use Rattle.report.specs.Lines.{Spoiled}
 use Rattle.report.proofs.Whole.{never_spoiled}
 use Rattle.report.proofs.reckoning.reckon.Goals as goal
 

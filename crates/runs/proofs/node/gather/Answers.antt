@@ -1,4 +1,4 @@
-use Rattle.std.proofs.Common.{◌≡◌, ◌<◌, length, refl, ap, ◌∙◌, arith}
+use Rattle.std.proofs.Common.{◌<◌, length, refl, ap, ◌∙◌, arith}
 use Rattle.network.specs.Networks.{segment_arc}
 use Rattle.runs.proofs.Gathers.{begin, passed, taken, stops, finish, read_means, rising, moved, joined_value}
 use Rattle.runs.proofs.node.gather.Goals as goal

@@ -1,4 +1,4 @@
-use Rattle.std.proofs.Common.{◌≡◌, ◌<◌, ◌≤◌, length, refl, ap, ◌∙◌, subst, arith, length-set}
+use Rattle.std.proofs.Common.{◌≡◌, ◌<◌, length, refl, ap, ◌∙◌, subst, arith, length-set}
 use Rattle.runs.specs.Runs.{Done}
 use Rattle.runs.proofs.Rows.{none_done, done_more, below_same, run_stops}
 use Rattle.runs.proofs.pass.run.Goals as goal

@@ -1,4 +1,4 @@
-use Rattle.std.proofs.Common.{◌≡◌, ◌<◌, length, refl, arith, rules}
+use Rattle.std.proofs.Common.{◌<◌, refl, arith, rules}
 use Rattle.plan.proofs.NextNode.{found_settles}
 use Rattle.plan.proofs.Standing.{settled_stands}
 use Rattle.plan.proofs.plan.Plan.settle.Goals as goal

@@ -1,4 +1,4 @@
-use Rattle.std.proofs.Common.{◌++◌, is_ok, codes, decimal, sym, ap}
+use Rattle.std.proofs.Common.{◌++◌, is_ok, codes, decimal, ap}
 use Rattle.std.proofs.Output.{has_written_append, has_written_of_eq}
 use Rattle.printout.specs.Texts.{steps_text}
 use Rattle.printout.proofs.route_text.RouteLineDisplay.fmt.Goals as goal

@@ -1,4 +1,4 @@
-use Rattle.std.proofs.Common.{◌≡◌, ℕ, ◌<◌, get_or, Some, sym, ap, ◌∙◌, subst, arith}
+use Rattle.std.proofs.Common.{ℕ, ◌<◌, get_or, Some, sym, ap, ◌∙◌, subst, arith}
 use Rattle.network.specs.declared.record.Record.{Record}
 use Rattle.network.specs.Networks.{arc}
 use Rattle.network.specs.Records.{LawfulRecord}

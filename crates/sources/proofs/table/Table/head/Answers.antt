@@ -1,4 +1,4 @@
-use Rattle.std.proofs.Common.{◌≡◌, Some, sym, ap, ◌∙◌, arith}
+use Rattle.std.proofs.Common.{◌≡◌, sym, ap, ◌∙◌, arith}
 use Rattle.network.specs.declared.record.Record.{Record}
 use Rattle.network.specs.Networks.{Arc, arc}
 use Rattle.sources.specs.Listed.{entry}
