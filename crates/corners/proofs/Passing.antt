@@ -74,12 +74,12 @@ module _ (N : Network) (ruled : Ruled N) (s : ℕ) (inside : s < N.nodes) where
 
   pub all_stop : (v e : ℕ) (st : Stage) (f : Fault) → listed f ≡ (24, During v e st) → v < N.nodes
       → ((u : ℕ) → u < v → AllFit hulls N s u (length N.arcs)) → Stops hulls N s v e st → EveryRun N s (StoppedBy f)
-  all_stop v e st f at-v low fit here old new (Ok _) long ran = fit_goes_on hulls N ruled s v e st (ran.2.fit v low) here
-  all_stop v e st f at-v low fit here old new (Err g) long (NoStart is a b) = absurd (omega arith)
-  all_stop v e st f at-v low fit here old new (Err g) long (ShortSheet is a b c) = absurd (omega arith)
-  all_stop v e st f at-v low fit here old new (Err g) long (RunStops u e' st' is a b c done stops) =
+  all_stop v e st f at_v low fit here old new (Ok _) long ran = fit_goes_on hulls N ruled s v e st (ran.2.fit v low) here
+  all_stop v e st f at_v low fit here old new (Err g) long (NoStart is a b) = absurd (omega arith)
+  all_stop v e st f at_v low fit here old new (Err g) long (ShortSheet is a b c) = absurd (omega arith)
+  all_stop v e st f at_v low fit here old new (Err g) long (RunStops u e' st' is a b c done stops) =
       let not_below : ¬ (u < v) = λ l. fit_goes_on hulls N ruled s u e' st' (fit u l) stops in
       let not_above : ¬ (v < u) = λ l. fit_goes_on hulls N ruled s v e st (done.fit v l) here in
       let same : u ≡ v = omega arith in
       let once = stops_once hulls N ruled s v e' e st' st (subst (λ n. Stops hulls N s n e' st') same stops) here in
-      is ∙ (λ i. (24, During (same i) (once.0 i) (once.1 i))) ∙ sym at-v
+      is ∙ (λ i. (24, During (same i) (once.0 i) (once.1 i))) ∙ sym at_v

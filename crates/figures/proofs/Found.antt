@@ -12,9 +12,9 @@ use Rattle.kinds.specs.declared.tally.Tally.{Tally}
 use Rattle.kinds.specs.Leasts.{leasts, amount}
 use Rattle.kinds.specs.Counts.{counts, cut, tallied}
 use Rattle.runs.specs.Runs.{Stops, Ran, NoStart, ShortSheet, RunStops}
-use Rattle.figures.specs.Leasts as of-costs
+use Rattle.figures.specs.Leasts as of_costs
 use Rattle.figures.specs.Leasts.{LeastsFound}
-use Rattle.figures.specs.Counts as of-counts
+use Rattle.figures.specs.Counts as of_counts
 use Rattle.figures.specs.Counts.{CountsFound}
 use Rattle.figures.proofs.LeastFits.{least_letters_fit, least_extended_fits, least_through_fits}
 use Rattle.figures.proofs.LeastJoins.{join_least_cost}
@@ -41,8 +41,8 @@ module _ (N : Network) (ruled : Ruled N) (s : ℕ) where
   pub leasts_found : (w : Weight) → LawfulWeight w → (old new : List (Option Amount)) (r : Result (Unit {0}) Fault) → Ran (leasts w) N s amount old new r → LeastsFound N s w old new r
   leasts_found w lawful old new (Ok _) h =
       (lawful, h.0, h.1, (λ v l. let L = routes_listed N ruled s v in join_least_cost N s v w _ (h.2.values v l) L.0 L.1), h.2.rest)
-  leasts_found w lawful old new (Err f) (NoStart is a same) = (of-costs.NoStart is lawful a, same)
-  leasts_found w lawful old new (Err f) (ShortSheet is a b same) = (of-costs.ShortSheet is lawful a b, same)
+  leasts_found w lawful old new (Err f) (NoStart is a same) = (of_costs.NoStart is lawful a, same)
+  leasts_found w lawful old new (Err f) (ShortSheet is a b same) = (of_costs.ShortSheet is lawful a b, same)
   leasts_found w lawful old new (Err f) (RunStops v e st is a b c d h) = absurd (least_never_stops w lawful v e st h)
 
   -- the number in a cell is what the cell means
@@ -53,6 +53,6 @@ module _ (N : Network) (ruled : Ruled N) (s : ℕ) where
 
   pub counts_found : (old new : List Tally) (r : Result (Unit {0}) Fault) → Ran counts N s tallied old new r → CountsFound N s old new r
   counts_found old new (Ok _) h = (h.0, h.1, (λ v l L exact. counted_at new v ∙ join_count N s v _ (h.2.values v l) L exact), h.2.rest)
-  counts_found old new (Err f) (NoStart is a same) = (of-counts.NoStart is a, same)
-  counts_found old new (Err f) (ShortSheet is a b same) = (of-counts.ShortSheet is a b, same)
+  counts_found old new (Err f) (NoStart is a same) = (of_counts.NoStart is a, same)
+  counts_found old new (Err f) (ShortSheet is a b same) = (of_counts.ShortSheet is a b, same)
   counts_found old new (Err f) (RunStops v e st is a b c d h) = absurd (count_never_stops v e st h)

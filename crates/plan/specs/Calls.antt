@@ -14,14 +14,14 @@ use Rattle.plan.specs.Progress.{Progress, Answer, after_call}
 
 -- the same result as an answer
 abbrev pub answered : {X : Type 0} → (X → Reply) → Result X Fault → Answer
-answered as-reply (Ok x) = Ok (as-reply x)
-answered as-reply (Err f) = Err f
+answered as_reply (Ok x) = Ok (as_reply x)
+answered as_reply (Err f) = Err f
 
 -- the answer is a result that is right
-pub record Answers {X : Type 0} (as-reply : X → Reply) (Right : Result X Fault → Type 0) (a : Answer) : Type 0 where
+pub record Answers {X : Type 0} (as_reply : X → Reply) (Right : Result X Fault → Type 0) (a : Answer) : Type 0 where
   pub result : Result X Fault
   pub right : Right result
-  pub is : a ≡ answered as-reply result
+  pub is : a ≡ answered as_reply result
 
 -- the part of the steps that a route is written to held this before
 abbrev pub part : ℕ → ℕ → List Step → List Step

@@ -21,10 +21,10 @@ Advanced old (Err f) new = new ≡ old
 
 -- the plan has come as far as its answers say, and only the front of their place has changed; or nothing has changed
 abbrev pub Carried : State → List Call → List Step → List Answer → Result (Unit {0}) Fault → List Answer → List Step → State → Type 0
-Carried old calls steps answers (Ok _) new-answers new-steps new =
-    (progress new ≡ after_calls (progress old) calls (take (length calls) new-answers)) × (drop (length calls) new-answers ≡ drop (length calls) answers)
-Carried old calls steps answers (Err f) new-answers new-steps new =
-    (new ≡ old) × (new-answers ≡ answers) × (new-steps ≡ steps)
+Carried old calls steps answers (Ok _) new_answers new_steps new =
+    (progress new ≡ after_calls (progress old) calls (take (length calls) new_answers)) × (drop (length calls) new_answers ≡ drop (length calls) answers)
+Carried old calls steps answers (Err f) new_answers new_steps new =
+    (new ≡ old) × (new_answers ≡ answers) × (new_steps ≡ steps)
 
 -- the same of a plan that was fresh before
 abbrev pub CarriedFresh : List Call → List Answer → Result (Unit {0}) Fault → State → Type 0

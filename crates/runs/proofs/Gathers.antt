@@ -41,10 +41,10 @@ module _ {A : Algebra} (laws : Semiring A) {N : Network} (ruled : Ruled N) (s v 
 
   -- one at the start, zero elsewhere
   pub begin : {x : A.Carrier} → (v ≡ s → x ≡ A.one) → ((v ≡ s → ⊥) → x ≡ A.zero) → Upto A N s v 0 x
-  begin {x = x} at-start elsewhere = (by_start (eqb_tells v s), λ f l. absurd (omega arith))
+  begin {x = x} at_start elsewhere = (by_start (eqb_tells v s), λ f l. absurd (omega arith))
     where
       by_start : ((eqb v s ≡ true) × (v ≡ s)) ⊎ ((eqb v s ≡ false) × (v ≡ s → ⊥)) → x ≡ gathered A N s v 0
-      by_start (inl h) = at-start h.1 ∙ sym (gathered_one laws N s v h.1)
+      by_start (inl h) = at_start h.1 ∙ sym (gathered_one laws N s v h.1)
       by_start (inr h) = elsewhere h.1 ∙ sym (gathered_zero laws N s v h.1)
 
   pass_none : {x : A.Carrier} (e : ℕ) → e < length N.arcs → at N e ≡ None → Upto A N s v e x → Upto A N s v (e + 1) x

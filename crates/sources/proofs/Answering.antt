@@ -11,11 +11,11 @@ same_place p q a h i = cc
 
 module _ (Right : Type 0) (Wrong : ℕ → ℕ → Type 0) where
   pub answered_ok : (u : Unit {0}) → Right → ((k p : ℕ) → Wrong k p → ⊥) → Answered Right Wrong (Ok u)
-  answered_ok u h no-wrong = record {
+  answered_ok u h no_wrong = record {
     accepts = λ _. h;
     accepted = λ _. tt;
     refuses = λ k p f. absurd f;
-    refused = λ k p f. no-wrong k p f;
+    refused = λ k p f. no_wrong k p f;
   }
 
   -- the fault is the first thing wrong, and there is no other

@@ -16,15 +16,15 @@ use Rattle.traceback.proofs.OneWay.{goes_on, none_serves, something_left}
 module _ (N : Network) (IsCorner : ℕ → Point → Type 0) (s : ℕ) where
   -- one step more at the end
   down_more : (v : ℕ) (p : Point) (xs : List Step) (u : ℕ) (q : Point) (x : Step) (t : ℕ) (r : Point) → Down N IsCorner s v p xs u q → u ≢ s → Takes N IsCorner u q x t r → Down N IsCorner s v p (xs ++ x ∷ []) t r
-  down_more v p [] u q x t r (same-node, same_cost) far takes =
+  down_more v p [] u q x t r (same_node, same_cost) far takes =
       let moved = subst (λ z. Takes N IsCorner u z x t r) (sym same_cost) takes in
-      (t, (r, ((λ e. far (sym same-node ∙ e)), subst (λ n. Takes N IsCorner n p x t r) (sym same-node) moved, (refl, refl))))
+      (t, (r, ((λ e. far (sym same_node ∙ e)), subst (λ n. Takes N IsCorner n p x t r) (sym same_node) moved, (refl, refl))))
   down_more v p (y ∷ xs) u q x t r (m, (o, (here, taken, below))) far takes =
       (m, (o, (here, taken, down_more m o xs u q x t r below far takes)))
 
   -- down to the start with nothing left is all the way back
   down_back : (v : ℕ) (p : Point) (xs : List Step) (u : ℕ) (q : Point) → Down N IsCorner s v p xs u q → u ≡ s → q ≡ origin → Back N IsCorner s v p xs
-  down_back v p [] u q (same-node, same_cost) e z = (same-node ∙ e, same_cost ∙ z)
+  down_back v p [] u q (same_node, same_cost) e z = (same_node ∙ e, same_cost ∙ z)
   down_back v p (x ∷ xs) u q (m, (o, (here, taken, below))) e z = (m, (o, (here, taken, down_back m o xs u q below e z)))
 
 -- the first `count` steps lead back from v to `node`, where `left` is left; if p is listed at v, so is `left` there

@@ -43,9 +43,9 @@ module _ (N : Network) (IsCorner : ℕ → Point → Type 0) where
 
   -- a way all the way back goes on from wherever a way down has come
   pub goes_on : (s v : ℕ) (p : Point) (xs : List Step) (u : ℕ) (q : Point) (ys : List Step) → Down N IsCorner s v p xs u q → Back N IsCorner s v p ys → (zs : List Step) × Back N IsCorner s u q zs
-  goes_on s v p [] u q ys (same-node, same_cost) back =
-      (ys, subst (λ n. Back N IsCorner s n q ys) same-node (subst (λ (z : Point). Back N IsCorner s v z ys) same_cost back))
-  goes_on s v p (x ∷ xs) u q [] (m, (o, (far, taken, below))) (at-start, nothing) = absurd (far at-start)
+  goes_on s v p [] u q ys (same_node, same_cost) back =
+      (ys, subst (λ n. Back N IsCorner s n q ys) same_node (subst (λ (z : Point). Back N IsCorner s v z ys) same_cost back))
+  goes_on s v p (x ∷ xs) u q [] (m, (o, (far, taken, below))) (at_start, nothing) = absurd (far at_start)
   goes_on s v p (x ∷ xs) u q (y ∷ ys) (m, (o, (far, taken, below))) (t, (r, (away, takes, more))) =
       let same = one_step v p x m o y t r taken takes in
       let tails : t ≡ m = one_tail N x t m v (subst (λ (z : Step). Leads N z t v) (sym same) takes.serves.leads) taken.serves.leads in
@@ -56,9 +56,9 @@ module _ (N : Network) (IsCorner : ℕ → Point → Type 0) where
 
   -- where no step serves, or something is left at the start, no way leads all the way back
   pub none_serves : (s u : ℕ) (q : Point) → u ≢ s → ((x : Step) (t : ℕ) (r : Point) → Serves N IsCorner u q x t r → ⊥) → (zs : List Step) → Back N IsCorner s u q zs → ⊥
-  none_serves s u q far none [] (at-start, nothing) = far at-start
+  none_serves s u q far none [] (at_start, nothing) = far at_start
   none_serves s u q far none (z ∷ zs) (t, (r, (away, takes, more))) = none z t r takes.serves
 
   pub something_left : (s u : ℕ) (q : Point) → u ≡ s → (q ≡ origin → ⊥) → (zs : List Step) → Back N IsCorner s u q zs → ⊥
-  something_left s u q here left [] (at-start, nothing) = left nothing
+  something_left s u q here left [] (at_start, nothing) = left nothing
   something_left s u q here left (z ∷ zs) (t, (r, (away, takes, more))) = away here
