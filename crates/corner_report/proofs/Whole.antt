@@ -1,6 +1,6 @@
 -- From what was read of a takeoff to its report. Assumes nothing.
 use Rattle.std.proofs.Common.{◌≡◌, ℕ, ◌-◌, ◌<◌, ◌≤◌, List, [], ◌∷◌, map, length, get_or, take, Some, Ok, Err, Option, Result, sym, refl, ap, ◌∙◌, subst, inr, arith, MatchResult}
-use Rattle.std.specs.List.{AllByRecursion as All}
+use Rattle.std.specs.List.{AllByRecursion}
 use Rattle.std.proofs.ByRecursion.{All-get_or}
 use Rattle.std.proofs.lemmas.List.{get_or-map, length-map, map-id, take_all}
 use Rattle.network.specs.declared.fault.Fault.{Fault}
@@ -24,7 +24,7 @@ use Rattle.corner_report.specs.Reports.{network_of, Answers, Takeoff, Misfits, R
 use Rattle.corner_report.proofs.AtTarget.{target_corners}
 
 -- records that say lawful segments and count their choices make a table
-accepted : (n : ℕ) (arcs : List Arc) (rs : List Record) → (1 ≤ n) × (n ≤ 128) → length arcs ≤ 1024 → All (LawfulArc n) arcs → map arc rs ≡ arcs → All Counted rs → Accepted n rs
+accepted : (n : ℕ) (arcs : List Arc) (rs : List Record) → (1 ≤ n) × (n ≤ 128) → length arcs ≤ 1024 → AllByRecursion (LawfulArc n) arcs → map arc rs ≡ arcs → AllByRecursion Counted rs → Accepted n rs
 accepted n arcs rs counted few each says choices =
     let long : length rs ≡ length arcs = sym (length-map rs arc) ∙ ap length says in
     record {
@@ -48,9 +48,9 @@ pub record Ready (h : Header) (rs : List Record) (ws : List Weight) : Type 0 whe
   pub start_inside : h.start < h.nodes
   pub target_inside : h.target < h.nodes
   pub few : length ws ≤ 16
-  pub weighed : All LawfulWeight ws
+  pub weighed : AllByRecursion LawfulWeight ws
 
-pub ready : (c : Contents) → Complete c → Lawful c → (rs : List Record) (ws : List Weight) → map arc rs ≡ arcs_of c → All Counted rs → ws ≡ weights_of c → Ready (header_of c) rs ws
+pub ready : (c : Contents) → Complete c → Lawful c → (rs : List Record) (ws : List Weight) → map arc rs ≡ arcs_of c → AllByRecursion Counted rs → ws ≡ weights_of c → Ready (header_of c) rs ws
 ready Empty whole l rs ws says counted is = absurd whole
 ready (Drawn n arcs) whole l rs ws says counted is = absurd whole
 ready (Aimed n arcs s t weights) whole l rs ws says counted is =
@@ -59,7 +59,7 @@ ready (Aimed n arcs s t weights) whole l rs ws says counted is =
       start_inside = l.1.start_inside;
       target_inside = l.1.target_inside;
       few = subst (λ (xs : List Weight). length xs ≤ 16) (sym is) l.1.few;
-      weighed = subst (All LawfulWeight) (sym is) l.1.each;
+      weighed = subst (AllByRecursion LawfulWeight) (sym is) l.1.each;
     }
 
 map_some : (rs : List Record) → map (λ (r : Record). Some (arc r)) rs ≡ map Some (map arc rs)
@@ -121,8 +121,8 @@ module _ (c : Contents) (h : Header) (is : h ≡ header_of c) (before after : Li
   pub drawn : map arc rs ≡ arcs_of c
   drawn = ap (λ k. map arc (take k after)) as_many ∙ segments.front
 
-  counts : All Counted rs
-  counts = subst (λ k. All Counted (take k after)) (sym as_many) counted
+  counts : AllByRecursion Counted rs
+  counts = subst (λ k. AllByRecursion Counted (take k after)) (sym as_many) counted
 
   pub weighed : ws ≡ weights_of c
   weighed = ap (λ k. take k new) as_many_weights ∙ sym (map-id (take (length (weights_of c)) new)) ∙ weights.front

@@ -1,6 +1,6 @@
 //! The lines of all weights.
 ghost use Rattle.std.specs.Prelude.{◌≡◌, ◌≤◌, length, MatchResult};
-ghost use Rattle.std.specs.List.{AllByRecursion as All};
+ghost use Rattle.std.specs.List.{AllByRecursion};
 ghost use Rattle.network.specs.Costs.{LawfulWeight};
 ghost use Rattle.sources.specs.Tables.{table_network};
 ghost use Rattle.corner_report.specs.Planned.{Lined, Planned, target_list};
@@ -36,7 +36,7 @@ pub(crate) fn lines_of(
     weights: &[Weight],
 ) -> Result<[WeightLine; 16], Fault>
     requires planned { Planned (table_network plan.now.source) header.now plan.now }
-    requires weighed { (length weights.now ≤ 16) × (All LawfulWeight weights.now) }
+    requires weighed { (length weights.now ≤ 16) × (AllByRecursion LawfulWeight weights.now) }
     ensures { MatchResult result (λ lines. Lined (table_network plan.now.source) header.now (target_list header.now plan.now) weights.now lines (length weights.now)) (λ _. ⊥) }
 {
     let mut lines = [WeightLine {

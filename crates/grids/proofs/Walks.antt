@@ -2,7 +2,7 @@
 use Rattle.std.proofs.Common.{◌≡◌, ℕ, ◌+◌, ◌-◌, ◌*◌, ◌/◌, ◌%◌, ◌<◌, Bool, true, false, cond, eqb, ltb, List, [], ◌∷◌, map, length, Some, None, refl, ap, ◌∙◌, subst, inl, inr, arith}
 use Rattle.std.proofs.lemmas.List.{length-map}
 use Rattle.std.proofs.lemmas.Bool.{eq-eqb, ne_eqb, le-ltb, cond-false}
-use Rattle.std.specs.List.{AllByRecursion as All}
+use Rattle.std.specs.List.{AllByRecursion}
 use Rattle.network.specs.declared.size.Size.{Size}
 use Rattle.network.specs.declared.step.Step.{Step}
 use Rattle.network.specs.Routes.{Leads, Route}
@@ -72,7 +72,7 @@ module _ (w h : ℕ) (cs : List Cell) (zs : List Size) where
         | inr n ↦ (record { segment = 2 * v + 1; choice = k }, (leads_by (2 * v + 1) u v k l (grid_entered.above u v g.inside n g.leaves g.enters), refl))
       ]
 
-  walk_routes : (u v : ℕ) (xs : List ℕ) → Walk w h cs u v xs → (ks : List ℕ) → length ks ≡ length xs → All (λ k. k < length zs) ks → (r : List Step) × (Route (grid w h cs zs) u v r × (Through (grid w h cs zs) u xs r × (map (λ s. s.choice) r ≡ ks)))
+  walk_routes : (u v : ℕ) (xs : List ℕ) → Walk w h cs u v xs → (ks : List ℕ) → length ks ≡ length xs → AllByRecursion (λ k. k < length zs) ks → (r : List Step) × (Route (grid w h cs zs) u v r × (Through (grid w h cs zs) u xs r × (map (λ s. s.choice) r ≡ ks)))
   walk_routes u v [] q [] e a = ([], (q, (tt, refl)))
   walk_routes u v [] q (k ∷ ks) e a = absurd (omega arith)
   walk_routes u v (x ∷ xs) q [] e a = absurd (omega arith)

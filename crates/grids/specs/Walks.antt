@@ -1,6 +1,6 @@
 -- The segments and the routes of a grid, as steps from cell to cell. Assumes nothing.
 use Rattle.std.specs.Prelude.{◌≡◌, ℕ, ◌+◌, ◌*◌, ◌%◌, ◌<◌, List, [], ◌∷◌, map, length, Some, ◌≢◌}
-use Rattle.std.specs.List.{AllByRecursion as All}
+use Rattle.std.specs.List.{AllByRecursion}
 use Rattle.network.specs.declared.size.Size.{Size}
 use Rattle.network.specs.declared.step.Step.{Step}
 use Rattle.network.specs.Networks.{Network, Arc, at}
@@ -47,4 +47,4 @@ Through N u (x ∷ xs) (s ∷ r) = Leads N s u x × Through N x xs r
 -- choices
 pub record Walked (w h : ℕ) (cs : List Cell) (zs : List Size) (N : Network) : Type 0 where
   pub only : (u v : ℕ) (r : List Step) → Route N u v r → (xs : List ℕ) × (Walk w h cs u v xs × Through N u xs r)
-  pub all : (u v : ℕ) (xs : List ℕ) → Walk w h cs u v xs → (ks : List ℕ) → length ks ≡ length xs → All (λ k. k < length zs) ks → (r : List Step) × (Route N u v r × (Through N u xs r × (map (λ s. s.choice) r ≡ ks)))
+  pub all : (u v : ℕ) (xs : List ℕ) → Walk w h cs u v xs → (ks : List ℕ) → length ks ≡ length xs → AllByRecursion (λ k. k < length zs) ks → (r : List Step) × (Route N u v r × (Through N u xs r × (map (λ s. s.choice) r ≡ ks)))

@@ -1,6 +1,6 @@
 -- What a report promises of a sample's takeoff. Assumes nothing.
 use Rattle.std.proofs.Common.{◌≡◌, ℕ, ◌<◌, List, map, length, get_or, take, Ok, Err, Result, sym, refl, ap, ◌∙◌, subst, inl, inr, arith, MatchResult}
-use Rattle.std.specs.List.{AllByRecursion as All}
+use Rattle.std.specs.List.{AllByRecursion}
 use Rattle.std.proofs.ByRecursion.{All-get_or}
 use Rattle.std.proofs.lemmas.List.{get_or-map, get_or-take, length-map, length-take, same_lists}
 use Rattle.network.specs.declared.fault.Fault.{Fault}
@@ -39,7 +39,7 @@ module _ (x : Sample) (holds : Holds x) where
 
   -- the lines are those of the same weights, and a weight has one answer
   lines_same : (ws : List Weight) (r : Report) (lines : List WeightLine) → map weight_of lines ≡ ws
-      → All (λ (l : WeightLine). Weighs x.network 0 x.node x.corners l.weight l.best) lines
+      → AllByRecursion (λ (l : WeightLine). Weighs x.network 0 x.node x.corners l.weight l.best) lines
       → map weight_of (take r.weights r.lines) ≡ ws
       → ((i : ℕ) → i < r.weights → (d : WeightLine) → Weighs x.network 0 x.node x.corners (get_or r.lines i d).weight (get_or r.lines i d).best)
       → take r.weights r.lines ≡ lines
@@ -60,7 +60,7 @@ module _ (x : Sample) (holds : Holds x) where
       λ i. record { weight = weight i; best = best i })
 
   module _ (c : Contents) (lines : List WeightLine) (expected : map weight_of lines ≡ weights_of c)
-      (right : All (λ (l : WeightLine). Weighs x.network 0 x.node x.corners l.weight l.best) lines) where
+      (right : AllByRecursion (λ (l : WeightLine). Weighs x.network 0 x.node x.corners l.weight l.best) lines) where
     report_says : (r : Report) → r.heading ≡ heading_of c → Answers x.network 0 x.node (weights_of c) r → ReportSays x c lines r
     report_says r headed answers =
         let same = one_corner_list x.network 0 x.node answers.list x.corners answers.corners holds.corners_are in
@@ -94,7 +94,7 @@ module _ (x : Sample) (holds : Holds x) (bytes : List ℕ) (c : Contents) (file 
       never_stops hulls x.network holds.ruled 0 misfits.node misfits.segment misfits.stage (holds.fits misfits.node) misfits.stops
 
   module _ (lines : List WeightLine) (expected : map weight_of lines ≡ weights_of c)
-      (right : All (λ (l : WeightLine). Weighs x.network 0 x.node x.corners l.weight l.best) lines) where
+      (right : AllByRecursion (λ (l : WeightLine). Weighs x.network 0 x.node x.corners l.weight l.best) lines) where
     pub reported : (r : Result Report Fault) → Reported bytes r → MatchResult r (λ y. ReportSays x c lines y) (λ _. ⊥)
     reported (Ok y) h =
         let same = file.alone h.of.contents h.of.lawful h.of.says in

@@ -1,6 +1,6 @@
 //! Working out a report.
 ghost use Rattle.std.specs.Prelude.{◌≡◌, ◌<◌, ◌≤◌, length, take, MatchResult};
-ghost use Rattle.std.specs.List.{AllByRecursion as All};
+ghost use Rattle.std.specs.List.{AllByRecursion};
 ghost use Rattle.network.specs.Costs.{LawfulWeight};
 ghost use Rattle.sources.specs.Filling.{Accepted};
 ghost use Rattle.sources.specs.Tables.{listed};
@@ -28,7 +28,7 @@ impl Report {
 fn reckon(header: Header, records: &[Record], weights: &[Weight]) -> Result<Report, Fault>
     requires drawn { Accepted header.nodes records.now }
     requires aimed { (header.start < header.nodes) × (header.target < header.nodes) }
-    requires weighed { (length weights.now ≤ 16) × (All LawfulWeight weights.now) }
+    requires weighed { (length weights.now ≤ 16) × (AllByRecursion LawfulWeight weights.now) }
     ensures { MatchResult result (λ x. Told header records.now weights.now x) (λ _. ⊥) }
 {
     let mut table = Table::new();

@@ -1,12 +1,12 @@
 -- The table of samples passes its test, which is computed. Assumes nothing.
 use Rattle.std.proofs.Common.{refl}
-use Rattle.std.specs.List.{AllByRecursion as All}
+use Rattle.std.specs.List.{AllByRecursion}
 use Rattle.algebra.specs.Enumerated.{ends_with, extended, into, own, within, routes, routes_below}
 use Rattle.samples.specs.Samples.{Holds}
 use Rattle.samples.specs.Table.{closed, drawn, hexagon, lone, square, straight, table}
 use Rattle.samples.proofs.Lines.{table_passed}
 
-pub all_hold : All Holds table
+pub all_hold : AllByRecursion Holds table
 unfolding ends_with extended into own within routes routes_below
 all_hold = table_passed table refl
 

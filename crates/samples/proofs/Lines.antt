@@ -1,6 +1,6 @@
 -- One test of a whole sample, and the lemma that turns it into what the sample says. Assumes nothing.
 use Rattle.std.proofs.Common.{◌≡◌, ℕ, ◌<◌, Bool, true, ◌&&◌, eqb, ltb, List, [], length, get_or, pos, subst, arith}
-use Rattle.std.specs.List.{AllByRecursion as All}
+use Rattle.std.specs.List.{AllByRecursion}
 use Rattle.std.proofs.lemmas.List.{get_or_default}
 use Rattle.std.proofs.lemmas.Bool.{and_parts, eqb-true, ltb-true}
 use Rattle.network.specs.declared.step.Step.{Step}
@@ -89,5 +89,5 @@ sample_passed x t =
     }
 
 -- and of a table of samples
-pub table_passed : (xs : List Sample) → each? sample? xs ≡ true → All Holds xs
+pub table_passed : (xs : List Sample) → each? sample? xs ≡ true → AllByRecursion Holds xs
 table_passed = each_passed sample? Holds sample_passed

@@ -2,7 +2,7 @@
 use Rattle.std.proofs.Common.{◌≡◌, ℕ, zero, suc, ◌<◌, Bool, true, ◌&&◌, T, List, [], ◌∷◌, ℤ, ◌≤ℤ◌, ◌<ℤ◌, sym, subst, arith}
 use native.Mathlib.Decide.{ℕ_discrete}
 use lib.Signed.{lt_z, le_z}
-use Rattle.std.specs.List.{AllByRecursion as All}
+use Rattle.std.specs.List.{AllByRecursion}
 use Rattle.std.proofs.lemmas.Bool.{and_parts}
 
 -- the test passes at every number below n
@@ -24,7 +24,7 @@ abbrev pub each? : {X : Type 0} → (X → Bool) → List X → Bool
 each? f [] = true
 each? f (x ∷ xs) = f x && each? f xs
 
-pub each_passed : {X : Type 0} (f : X → Bool) (P : X → Type 0) → ((x : X) → f x ≡ true → P x) → (xs : List X) → each? f xs ≡ true → All P xs
+pub each_passed : {X : Type 0} (f : X → Bool) (P : X → Type 0) → ((x : X) → f x ≡ true → P x) → (xs : List X) → each? f xs ≡ true → AllByRecursion P xs
 each_passed f P by [] t = tt
 each_passed f P by (x ∷ xs) t = let both = and_parts (f x) (each? f xs) t in (by x both.0, each_passed f P by xs both.1)
 

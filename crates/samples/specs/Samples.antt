@@ -1,6 +1,6 @@
 -- A worked sample: a network, one of its nodes, and what is so of the routes there from node 0. Assumes nothing.
 use Rattle.std.specs.Prelude.{◌≡◌, ℕ, ◌<◌, List, length, slice_index_or}
-use Rattle.std.specs.List.{AllByRecursion as All}
+use Rattle.std.specs.List.{AllByRecursion}
 use Rattle.network.specs.declared.step.Step.{Step}
 use Rattle.network.specs.declared.way.Ray.{Ray}
 use Rattle.network.specs.declared.weight.Weight.{Weight}
@@ -56,4 +56,4 @@ pub record Holds (x : Sample) : Type 0 where
   pub cones_are : ConesAre x.network x.node x.corners x.cones
   pub routes_are : RoutesAre x.network x.node x.corners x.routes
   pub counted : RouteCount x.network 0 x.node x.number
-  pub weighed : All (λ (w : Weighed). CheapestIs x.network 0 x.node x.corners w.weight w.best) x.weights
+  pub weighed : AllByRecursion (λ (w : Weighed). CheapestIs x.network 0 x.node x.corners w.weight w.best) x.weights

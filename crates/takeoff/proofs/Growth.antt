@@ -1,6 +1,6 @@
 -- Contents grow by one field. Assumes nothing.
 use Rattle.std.proofs.Common.{◌≡◌, ℕ, ◌+◌, ◌<◌, Bool, true, List, [], ◌∷◌, ◌++◌, map, length, take, drop, set, sym, refl, ap, ◌∙◌, subst, arith}
-use Rattle.std.specs.List.{flat_map, AllByRecursion as All}
+use Rattle.std.specs.List.{flat_map, AllByRecursion}
 use Rattle.std.proofs.lemmas.List.{append_assoc, drop-drop, drop-set-lt, flat_map_more, length_push, length-set, map_push, take_more_set}
 use Rattle.std.proofs.ByRecursion.{All-push}
 use Rattle.network.specs.declared.record.Record.{Record}
@@ -114,7 +114,7 @@ module _ (r q : ℕ) (ss ss' : List Record) (ws ws' : List Weight) (long : lengt
       (λ n arcs s a h.
       let free : length arcs < length ss' = omega (arith, a.1) in
       let front = ap (λ (k : ℕ). take k (set ss' (length arcs) s)) (length_push arcs (arc s)) ∙ take_more_set ss' (length arcs) s free in
-      subst (All CountsChoices) (sym front) (All-push CountsChoices (take (length arcs) ss') s h a.2.counted))
+      subst (AllByRecursion CountsChoices) (sym front) (All-push CountsChoices (take (length arcs) ss') s h a.2.counted))
       (λ n arcs s t a h. h)
       (λ n arcs s t xs w a h. h)
 

@@ -1,6 +1,6 @@
 -- The bytes of a field determine the field. Assumes nothing.
 use Rattle.std.proofs.Common.{◌≡◌, ℕ, ◌/◌, ◌%◌, ◌<◌, List, [], ◌∷◌, ◌++◌, length, take, drop, ℤ, pos, negsuc, sym, refl, ap, ◌∙◌, arith}
-use Rattle.std.specs.List.{flat_map, AllByRecursion as All}
+use Rattle.std.specs.List.{flat_map, AllByRecursion}
 use Rattle.std.proofs.lemmas.List.{append-nil, append_assoc, length-append, take_at, drop_at}
 use Rattle.std.proofs.lemmas.Int.{ints}
 use Rattle.network.specs.declared.size.Size.{Size}
@@ -33,7 +33,7 @@ cons_same : {X : Type 0} {x y : X} {xs ys : List X} → x ∷ xs ≡ y ∷ ys �
 cons_same e = ((cc), (cc))
 
 -- four bytes tell choices apart
-sizes_same : (ys zs : List Size) → All Short ys → All Short zs → flat_map size_bytes ys ≡ flat_map size_bytes zs → ys ≡ zs
+sizes_same : (ys zs : List Size) → AllByRecursion Short ys → AllByRecursion Short zs → flat_map size_bytes ys ≡ flat_map size_bytes zs → ys ≡ zs
 sizes_same [] [] h k e = refl
 sizes_same [] (z ∷ zs) h k e = absurd (omega (arith, ap length e))
 sizes_same (y ∷ ys) [] h k e = absurd (omega (arith, ap length e))

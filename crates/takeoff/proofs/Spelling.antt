@@ -1,6 +1,6 @@
 -- Reading choices four bytes at a time. Assumes nothing.
 use Rattle.std.proofs.Common.{◌≡◌, ℕ, ◌+◌, ◌-◌, ◌*◌, ◌<◌, ◌≤◌, List, [], ◌∷◌, ◌++◌, length, get_or, take, drop, set, sym, refl, ap, ◌∙◌, subst, arith}
-use Rattle.std.specs.List.{flat_map, AllByRecursion as All}
+use Rattle.std.specs.List.{flat_map, AllByRecursion}
 use Rattle.std.proofs.lemmas.List.{append-nil, append_assoc, flat_map_more, length-set, nil_from_length, take_more_set, take_rest}
 use Rattle.std.proofs.ByRecursion.{All-push}
 use Rattle.network.specs.declared.size.Size.{Size}
@@ -18,7 +18,7 @@ four_first (x ∷ y ∷ z ∷ w ∷ b) h = refl
 pub record Spelt (bytes rest : List ℕ) (sizes : List Size) (count : ℕ) : Type 0 where
   pub said : flat_map size_bytes (take count sizes) ++ rest ≡ bytes
   pub long : 4 * count + length rest ≡ length bytes
-  pub short : All Short (take count sizes)
+  pub short : AllByRecursion Short (take count sizes)
   pub room : length sizes ≡ 8
 
 module _ (bytes rest : List ℕ) (sizes : List Size) (count : ℕ) (z : Size) where
@@ -38,7 +38,7 @@ module _ (bytes rest : List ℕ) (sizes : List Size) (count : ℕ) (z : Size) wh
             ∙ ap (λ (b : List ℕ). flat_map size_bytes (take count sizes) ++ b) here
             ∙ i.said;
         long = omega (arith, i.long, ap length tail_is, ap length here);
-        short = subst (λ (s : List Size). All Short s) (sym more) (All-push Short (take count sizes) z i.short short);
+        short = subst (λ (s : List Size). AllByRecursion Short s) (sym more) (All-push Short (take count sizes) z i.short short);
         room = length-set sizes count z ∙ i.room;
       }
 

@@ -1,6 +1,6 @@
 -- A file has one reading. Assumes nothing.
 use Rattle.std.proofs.Common.{◌≡◌, ℕ, ◌<◌, ◌≤◌, List, [], ◌∷◌, ◌++◌, map, length, ℤ, Ok, Err, Result, sym, refl, ap, ◌∙◌, subst, inl, inr, arith}
-use Rattle.std.specs.List.{flat_map, AllByRecursion as All}
+use Rattle.std.specs.List.{flat_map, AllByRecursion}
 use Rattle.std.proofs.lemmas.List.{append-nil, append_assoc, append_cancel_left, length-append}
 use Rattle.std.proofs.ByRecursion.{All-from_get_or}
 use Rattle.std.proofs.lemmas.Int.{ints}
@@ -29,7 +29,7 @@ within_16 z h = (omega (arith, ints, h.0), omega (arith, ints, h.1))
 within_32 : (z : ℤ) → Within 6000000 z → In32 z
 within_32 z h = (omega (arith, ints, h.0), omega (arith, ints, h.1))
 
-sizes_short : (zs : List Size) → Ranged zs → All Short zs
+sizes_short : (zs : List Size) → Ranged zs → AllByRecursion Short zs
 sizes_short zs h = All-from_get_or Short zs _ (λ k inside. (within_16 (choice zs k).price (h k inside).0, within_16 (choice zs k).pressure (h k inside).1))
 
 -- each of the fields may follow where it stands, and they lead from c to d
@@ -42,7 +42,7 @@ abbrev Walk : ℕ → ℕ → Contents → List Field → Contents → Type 0
 Walk r q c [] d = c ≡ d
 Walk r q c (f ∷ fs) d = Goes r q c f × Walk r q (extend c f) fs d
 
-all_mid : {X : Type 0} (Q : X → Type 0) (xs : List X) (y : X) (ys : List X) → All Q (xs ++ y ∷ ys) → Q y
+all_mid : {X : Type 0} (Q : X → Type 0) (xs : List X) (y : X) (ys : List X) → AllByRecursion Q (xs ++ y ∷ ys) → Q y
 all_mid Q [] y ys a = a.0
 all_mid Q (x ∷ xs) y ys a = all_mid Q xs y ys a.1
 

@@ -1,6 +1,6 @@
 -- What the reader of takeoff files answers, and what it leaves in the two places. Assumes nothing.
 use Rattle.std.specs.Prelude.{◌≡◌, ℕ, List, ◌++◌, map, length, take, drop, Ok, Err, Result}
-use Rattle.std.specs.List.{AllByRecursion as All}
+use Rattle.std.specs.List.{AllByRecursion}
 use Rattle.network.specs.declared.fault.Fault.{Fault}
 use Rattle.network.specs.declared.fault.Place.TheVariants.{At}
 use Rattle.network.specs.declared.record.Record.{Record}
@@ -37,7 +37,7 @@ pub record Holds {X Y : Type 0} (means : X → Y) (items : List Y) (before after
 
 -- each record at the front of a place counts one choice to eight
 abbrev pub FrontCounted : Contents → List Record → Type 0
-FrontCounted c after = All CountsChoices (take (length (arcs_of c)) after)
+FrontCounted c after = AllByRecursion CountsChoices (take (length (arcs_of c)) after)
 
 -- what a reader with room for r segments and q weights promises where it answers o:
 -- what was read of the file is lawful, and the answer is right

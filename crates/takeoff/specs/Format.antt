@@ -1,6 +1,6 @@
 -- The format of a takeoff file: what a field says, and the bytes that say it. Assumes nothing.
 use Rattle.std.specs.Prelude.{◌≡◌, ℕ, suc, ◌+◌, ◌-◌, ◌*◌, ◌/◌, ◌%◌, ◌<◌, ◌≤◌, List, [], ◌∷◌, ◌++◌, length, ℤ, pos, negsuc, ◌≤ℤ◌}
-use Rattle.std.specs.List.{flat_map, AllByRecursion as All}
+use Rattle.std.specs.List.{flat_map, AllByRecursion}
 use Rattle.network.specs.declared.size.Size.{Size}
 use Rattle.network.specs.declared.weight.Weight.{Weight}
 use Rattle.network.specs.Networks.{Arc}
@@ -85,6 +85,6 @@ Short z = In16 z.price × In16 z.pressure
 -- a field that its bytes can say
 abbrev pub Sayable : Field → Type 0
 Sayable (Nodes n) = n < 256
-Sayable (Segment a) = (a.tail < 256) × (a.head < 256) × (1 ≤ length a.sizes) × (length a.sizes ≤ 8) × All Short a.sizes
+Sayable (Segment a) = (a.tail < 256) × (a.head < 256) × (1 ≤ length a.sizes) × (length a.sizes ≤ 8) × AllByRecursion Short a.sizes
 Sayable (Points s t) = (s < 256) × (t < 256)
 Sayable (Weighing w) = In32 w.a × In32 w.b

@@ -1,6 +1,6 @@
 -- What the functions inside the reader promise one another. Assumes nothing.
 use Rattle.std.specs.Prelude.{◌≡◌, ℕ, ◌+◌, ◌<◌, ◌≤◌, Bool, true, false, List, ◌++◌, length, Result, slice_set}
-use Rattle.std.specs.List.{flat_map, AllByRecursion as All}
+use Rattle.std.specs.List.{flat_map, AllByRecursion}
 use Rattle.network.specs.declared.record.Record.{Record}
 use Rattle.network.specs.declared.weight.Weight.{Weight}
 use Rattle.network.specs.declared.fault.Fault.{Fault}
@@ -47,7 +47,7 @@ pub record Listing (tail head : ℕ) (bytes : List ℕ) (s : Record) : Type 0 wh
   pub to : s.head ≡ head
   pub few : s.count ≤ 8
   pub spells : flat_map size_bytes (choices s) ≡ bytes
-  pub short : All ShortSize (choices s)
+  pub short : AllByRecursion ShortSize (choices s)
 
 abbrev pub Whole : Item → Type 0
 Whole (item.Nodes n) = Unit {0}

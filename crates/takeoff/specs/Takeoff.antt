@@ -1,6 +1,6 @@
 -- Takeoffs: what a file says, the bytes that say it, and which are lawful. Assumes nothing.
 use Rattle.std.specs.Prelude.{ℕ, ◌<◌, ◌≤◌, List, [], ◌∷◌, ◌++◌, map, length}
-use Rattle.std.specs.List.{flat_map, AllByRecursion as All}
+use Rattle.std.specs.List.{flat_map, AllByRecursion}
 use Rattle.network.specs.declared.weight.Weight.{Weight}
 use Rattle.network.specs.Costs.{LawfulWeight}
 use Rattle.network.specs.Networks.{Arc, Proper}
@@ -76,13 +76,13 @@ LawfulArc n a = Proper n a × (a.tail < a.head)
 pub record LawfulDrawing (n : ℕ) (arcs : List Arc) : Type 0 where
   pub counted : Counted n
   pub few : length arcs ≤ 1024
-  pub each : All (LawfulArc n) arcs
+  pub each : AllByRecursion (LawfulArc n) arcs
 
 pub record LawfulAim (n start target : ℕ) (weights : List Weight) : Type 0 where
   pub start_inside : start < n
   pub target_inside : target < n
   pub few : length weights ≤ 16
-  pub each : All LawfulWeight weights
+  pub each : AllByRecursion LawfulWeight weights
 
 abbrev pub Lawful : Contents → Type 0
 Lawful Empty = Unit {0}

@@ -3,7 +3,7 @@ ghost use Rattle.std.specs.Prelude.{◌≡◌, ◌+◌, ◌^◌, ◌<◌, length
 ghost use Rattle.network.specs.declared.fault.Fault.TheVariants.{OutOfOrder};
 ghost use Rattle.takeoff.specs.Takeoff.{Empty};
 ghost use Rattle.takeoff.specs.Inner.{reader_of, Stepped, Halted, Finished};
-ghost use Rattle.takeoff.specs.declared.order.Stage.TheVariants as Stage-is;
+ghost use Rattle.takeoff.specs.declared.order.Stage.TheVariants as StageIs;
 
 use crate::field::first_field;
 use crate::header::Header;
@@ -58,7 +58,7 @@ impl Reader {
 
     /// The header where nothing is missing. Refuses with 4 where the points have not been read.
     fn end(&self) -> Result<Header, Fault>
-        ensures { MatchResult result (λ h. (self.now.stage ≡ Stage-is.Aiming) × (h ≡ self.now.header)) (λ f. (f ≡ OutOfOrder self.now.at) × (self.now.stage ≢ Stage-is.Aiming)) }
+        ensures { MatchResult result (λ h. (self.now.stage ≡ StageIs.Aiming) × (h ≡ self.now.header)) (λ f. (f ≡ OutOfOrder self.now.at) × (self.now.stage ≢ StageIs.Aiming)) }
     {
         match self.stage {
             Stage::Aiming => Ok(self.header),
