@@ -4,8 +4,8 @@ ghost use Rattle.std.specs.Option.{option_map};
 ghost use Rattle.network.specs.declared.size.Size.{Size};
 ghost use Rattle.network.specs.Networks.{at, segment_arc};
 ghost use Rattle.grids.specs.declared.cell.Cell.TheVariants.{Open};
-ghost use Rattle.grids.specs.Cells.{Mild, cell as cell-of};
-ghost use Rattle.grids.specs.Grids.{crossing as crossing-of, entering, origin as origin-of, grid_cells, grid_sizes, grid_network, plus_extra};
+ghost use Rattle.grids.specs.Cells.{Mild, cell as cell_of};
+ghost use Rattle.grids.specs.Grids.{crossing as crossing_of, entering, origin as origin_of, grid_cells, grid_sizes, grid_network, plus_extra};
 ghost use Rattle.grids.specs.GridRules.{grid_ruled};
 
 use crate::cell::Cell;
@@ -18,7 +18,7 @@ use sources::Source;
 /// even segment and from above by an odd one. None where there is no such neighbour.
 fn neighbour(width: usize, e: usize) -> Option<usize>
     requires { 1 ≤ width }
-    ensures { result ≡ origin-of width e }
+    ensures { result ≡ origin_of width e }
 {
     let v = e / 2;
     if e % 2 == 0 {
@@ -41,7 +41,7 @@ impl Grid {
     /// Cell `v`.
     fn cell(&self, v: usize) -> Cell
         requires { v < self.now.width * self.now.height }
-        ensures is { result ≡ cell-of (grid_cells self.now) v }
+        ensures is { result ≡ cell_of (grid_cells self.now) v }
         ensures mild { (x : Size) → result ≡ Open x → Mild x }
     {
         self.cells[v]
@@ -78,7 +78,7 @@ impl Grid {
     /// The segment from cell `u` into cell `v`; none unless both are open.
     fn crossing(&self, u: usize, v: usize) -> Option<Segment>
         requires { (u < self.now.width * self.now.height) × (v < self.now.width * self.now.height) }
-        ensures { option_map segment_arc result ≡ crossing-of (grid_sizes self.now) u v (cell-of (grid_cells self.now) u) (cell-of (grid_cells self.now) v) }
+        ensures { option_map segment_arc result ≡ crossing_of (grid_sizes self.now) u v (cell_of (grid_cells self.now) u) (cell_of (grid_cells self.now) v) }
     {
         match self.cell(u) {
             Cell::Closed => None,

@@ -1,14 +1,14 @@
 //! Sizes with an extra.
 ghost use Rattle.std.specs.Prelude.{◌≡◌, ◌≤◌, map, length, take};
 ghost use Rattle.grids.specs.Cells.{Mild, MildSizes};
-ghost use Rattle.grids.specs.Grids.{paid as paid-of, plus_extra};
+ghost use Rattle.grids.specs.Grids.{paid as paid_of, plus_extra};
 
 use network::Size;
 
 /// The extra that a step pays, of the extra of the cell that it leaves and that of the cell that it enters.
 pub(crate) fn paid(_left: Size, entered: Size) -> Size
     requires { (Mild _left) × (Mild entered) }
-    ensures is { result ≡ paid-of _left entered }
+    ensures is { result ≡ paid_of _left entered }
     ensures mild { Mild result }
 {
     entered

@@ -47,21 +47,21 @@ module _ {A : Algebra} (laws : Semiring A) {N : Network} (ruled : Ruled N) (s v 
       by_start (inl h) = at_start h.1 ∙ sym (gathered_one laws N s v h.1)
       by_start (inr h) = elsewhere h.1 ∙ sym (gathered_zero laws N s v h.1)
 
-  pass_none : {x : A.Carrier} (e : ℕ) → e < length N.arcs → at N e ≡ None → Upto A N s v e x → Upto A N s v (e + 1) x
+  pub pass_none : {x : A.Carrier} (e : ℕ) → e < length N.arcs → None ≡ at N e → Upto A N s v e x → Upto A N s v (e + 1) x
   pass_none e l h u =
-      (u.0 ∙ sym (gathered_none laws N s v e l h), below_more Fit e u.1 (λ a k n. let z : ◌≡◌ {A = ℕ} 0 1 = cc in absurd (omega arith)))
+      (u.0 ∙ sym (gathered_none laws N s v e l (sym h)), below_more Fit e u.1 (λ a k n. let z : ◌≡◌ {A = ℕ} 0 1 = cc in absurd (omega arith)))
 
-  pass_other : {x : A.Carrier} (e : ℕ) (a : Arc) → e < length N.arcs → at N e ≡ Some a → a.head ≢ v → Upto A N s v e x → Upto A N s v (e + 1) x
+  pub pass_other : {x : A.Carrier} (e : ℕ) (a : Arc) → e < length N.arcs → Some a ≡ at N e → a.head ≢ v → Upto A N s v e x → Upto A N s v (e + 1) x
   pass_other e a l h n u =
-      (u.0 ∙ sym (gathered_other laws N s v e a l h n), below_more Fit e u.1 (λ b k m. let q : b ≡ a = cc in absurd (n (ap (λ (y : Arc). y.head) (sym q) ∙ m))))
+      (u.0 ∙ sym (gathered_other laws N s v e a l (sym h) n), below_more Fit e u.1 (λ b k m. let q : b ≡ a = cc in absurd (n (ap (λ (y : Arc). y.head) (sym q) ∙ m))))
 
   -- no segment numbered e leads into v
   pub passed : {x : A.Carrier} (e : ℕ) → e < length N.arcs → ((a : Arc) → at N e ≡ Some a → a.head ≡ v → ⊥) → Upto A N s v e x → Upto A N s v (e + 1) x
   passed {x = x} e l missing u = by_case (at N e) refl
     where
       by_case : (o : Option Arc) → at N e ≡ o → Upto A N s v (e + 1) x
-      by_case None h = pass_none e l h u
-      by_case (Some a) h = pass_other e a l h (missing a h) u
+      by_case None h = pass_none e l (sym h) u
+      by_case (Some a) h = pass_other e a l (sym h) (missing a h) u
 
   -- a segment a into v, numbered e, whose tail has its value y, where v has gathered x
   module _ {x y : A.Carrier} (e : ℕ) (a : Arc) (stands : Some a ≡ at N e) (into : a.head ≡ v) (tail : y ≡ value A N s a.tail) (u : Upto A N s v e x) (l : e < length N.arcs) where

@@ -5,7 +5,7 @@ ghost use Rattle.network.specs.declared.fault.Place.TheVariants.{At};
 ghost use Rattle.network.specs.Faults.{number, place as place_of};
 ghost use Rattle.takeoff.specs.Takeoff.{Counted};
 ghost use Rattle.takeoff.specs.Inner.{Admits, AdmitsSegment, AdmitsWeight, Bars, SegmentBars, WeightBars, counted, stored_segments, stored_weights};
-ghost use Rattle.takeoff.specs.declared.values.Item.TheVariants as item-is;
+ghost use Rattle.takeoff.specs.declared.values.Item.TheVariants as ItemIs;
 
 use crate::header::Header;
 use crate::values::Item;
@@ -15,7 +15,7 @@ impl Header {
     /// Takes the number of nodes. Refuses with 5 where it is not 1 to 128.
     fn take_nodes(&mut self, nodes: usize, at: usize) -> Result<(), Fault>
         ensures answer { MatchResult result (λ _. Counted nodes) (λ f. (f ≡ BadNode at) × (Counted nodes → ⊥)) }
-        ensures header { OnOk result (self.new ≡ counted self.old (item-is.Nodes nodes)) }
+        ensures header { OnOk result (self.new ≡ counted self.old (ItemIs.Nodes nodes)) }
     {
         if nodes < 1 || nodes > 128 {
             return Err(Fault::BadNode(at));
@@ -27,7 +27,7 @@ impl Header {
     /// Takes start and target. Refuses with 5 where one of them is no node.
     fn take_points(&mut self, start: usize, target: usize, at: usize) -> Result<(), Fault>
         ensures answer { MatchResult result (λ _. (start < self.old.nodes) × (target < self.old.nodes)) (λ f. (f ≡ BadNode at) × ((start < self.old.nodes) × (target < self.old.nodes) → ⊥)) }
-        ensures header { OnOk result (self.new ≡ counted self.old (item-is.Points start target)) }
+        ensures header { OnOk result (self.new ≡ counted self.old (ItemIs.Points start target)) }
     {
         if start >= self.nodes || target >= self.nodes {
             return Err(Fault::BadNode(at));
@@ -41,7 +41,7 @@ impl Header {
     /// the place is full, and 5, 7 or 12 where the segment may not stand in the network.
     fn take_segment(&mut self, segment: Record, at: usize, room: &mut [Record]) -> Result<(), Fault>
         ensures answer { MatchResult result (λ _. AdmitsSegment (length room.old) self.old segment) (λ f. (place_of f ≡ At at) × SegmentBars (length room.old) self.old segment (number f)) }
-        ensures header { OnOk result (self.new ≡ counted self.old (item-is.Segment segment)) }
+        ensures header { OnOk result (self.new ≡ counted self.old (ItemIs.Segment segment)) }
         ensures room_after { MatchResult result (λ _. room.new ≡ slice_set room.old self.old.segments segment) (λ _. room.new ≡ room.old) }
     {
         if self.segments >= 1024 {
@@ -62,7 +62,7 @@ impl Header {
     /// place is full, and 8 where the weight is out of range.
     fn take_weight(&mut self, weight: Weight, at: usize, room: &mut [Weight]) -> Result<(), Fault>
         ensures answer { MatchResult result (λ _. AdmitsWeight (length room.old) self.old weight) (λ f. (place_of f ≡ At at) × WeightBars (length room.old) self.old weight (number f)) }
-        ensures header { OnOk result (self.new ≡ counted self.old (item-is.Weight weight)) }
+        ensures header { OnOk result (self.new ≡ counted self.old (ItemIs.Weight weight)) }
         ensures room_after { MatchResult result (λ _. room.new ≡ slice_set room.old self.old.weights weight) (λ _. room.new ≡ room.old) }
     {
         if self.weights >= 16 {
