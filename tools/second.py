@@ -1,5 +1,5 @@
 #!/usr/bin/env python3
-"""Answers the takeoff on standard input: a second program, to be held against `routes`.
+"""Answers the takeoff on standard input: a second program, to be held against `corner_routes`.
 
 It reads the file by itself and goes through the network in its own way. Each node has all the distinct costs of routes
 from the start, and with each cost the lowest step that it ends in. A cost is a corner if the directions from it to all

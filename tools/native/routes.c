@@ -1,4 +1,4 @@
-/* The program `routes` by hand, unproved: what tools/bench holds the proved one against.
+/* The program `corner_routes` by hand, unproved: what tools/bench holds the proved one against.
  *
  * It reads a takeoff on standard input, makes the checks of docs/TAKEOFF.md and prints the same lines. The segments are
  * read once, straight from the bytes, and linked by the node they lead into. A corner list stands counterclockwise from

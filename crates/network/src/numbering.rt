@@ -1,13 +1,13 @@
 //! The numbers and places of faults.
 ghost use Rattle.std.specs.Prelude.{◌≡◌};
-ghost use Rattle.network.specs.Faults.{number as number_of_lem, place as place_of};
+ghost use Rattle.network.specs.Faults.{number as number_of, place as place_of};
 
 use crate::fault::{Fault, Place};
 
 impl Fault {
     /// The number under which the fault is reported.
     pub fn number(&self) -> u8
-        ensures { result ≡ number_of_lem self.now }
+        ensures { result ≡ number_of self.now }
     {
         match self {
             Fault::CutShort(_) => 1,
