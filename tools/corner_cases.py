@@ -7,127 +7,12 @@ crates/corner_cases/stdout, which is what the second program makes of them.
 import math
 import random
 
+from cases import SAMPLE, conflicts, drawn, edges, n, orders, p, s, w
 from second import answer
-
-
-def field(tag, value):
-    return tag.encode() + len(value).to_bytes(2, "big") + bytes(value)
-
-
-def n(nodes):
-    return field("N", [nodes])
-
-
-def s(tail, head, *choices):
-    value = bytes([tail, head])
-    for price, pressure in choices:
-        value += price.to_bytes(2, "big", signed=True) + pressure.to_bytes(2, "big", signed=True)
-    return field("S", value)
-
-
-def p(start, target):
-    return field("P", [start, target])
-
-
-def w(a, b):
-    return field("W", a.to_bytes(4, "big", signed=True) + b.to_bytes(4, "big", signed=True))
 
 
 def joined(fields):
     return b"".join(fields)
-
-
-SAMPLE = n(3) + s(0, 1, (4, 1), (1, 3)) + s(0, 2, (3, 3)) + s(1, 2, (2, 2), (1, 6)) + p(0, 2) + w(0, 1)
-
-
-def edges():
-    yield SAMPLE
-    yield SAMPLE + w(1, 1) + w(0, 0) + w(-1, 0) + w(0, -1) + w(-3, 2)
-    yield n(1) + p(0, 0) + w(1, 1)
-    yield n(2) + s(0, 1, (2, 2), (1, 1), (3, 3)) + p(0, 1) + w(1, 1) + w(-1, -1)
-    for x in (10000, 10001, -10000, -10001):
-        yield n(2) + s(0, 1, (x, 0)) + p(0, 1) + w(1, 0)
-        yield n(2) + s(0, 1, (0, 0), (0, x)) + p(0, 1) + w(0, 1)
-    for nodes in (0, 1, 128, 129, 255):
-        yield n(nodes) + p(0, nodes - 1 if nodes else 0) + w(1, 1)
-    for x in (6000000, 6000001, -6000000, -6000001):
-        yield n(2) + s(0, 1, (10000, -10000)) + p(0, 1) + w(x, 0)
-        yield n(2) + s(0, 1, (10000, -10000)) + p(0, 1) + w(0, x)
-    yield n(2) + s(0, 1, *[(k, k) for k in range(8)]) + p(0, 1) + w(-1, 0)
-    yield n(2) + s(0, 1, *[(k, k) for k in range(9)]) + p(0, 1)
-    yield n(2) + s(0, 1) + p(0, 1)
-    longest = n(128) + joined(s(v, v + 1, (10000, -10000)) for v in range(127)) + p(0, 127)
-    yield longest + w(6000000, -6000000) + w(-6000000, 6000000)
-    yield n(128) + joined(s(e % 127, e % 127 + 1, (e % 7, e % 11)) for e in range(1024)) + p(0, 127) + w(1, 1)
-    yield n(128) + joined(s(e % 127, e % 127 + 1, (e % 7, e % 11)) for e in range(1025)) + p(0, 127) + w(1, 1)
-    yield n(2) + s(0, 1, (1, 2)) + p(0, 1) + joined(w(k, -k) for k in range(16))
-    yield n(2) + s(0, 1, (1, 2)) + p(0, 1) + joined(w(k, -k) for k in range(17))
-    yield n(3) + s(0, 1, (1, 1)) + p(2, 0) + w(1, 1)
-    yield n(3) + s(0, 1, (1, 1)) + p(0, 2) + w(1, 1)
-    yield n(2) + s(1, 1, (1, 1)) + p(0, 1)
-    yield n(2) + s(0, 2, (1, 1)) + p(0, 1)
-    yield n(2) + p(0, 2)
-    yield n(2) + p(2, 0)
-
-
-def orders():
-    yield b""
-    yield s(0, 1, (1, 1))
-    yield p(0, 0)
-    yield w(1, 1)
-    yield n(2)
-    yield n(2) + n(2)
-    yield n(2) + w(1, 1)
-    yield n(2) + p(0, 1) + p(0, 1)
-    yield n(2) + p(0, 1) + s(0, 1, (1, 1))
-    yield n(2) + p(0, 1) + n(2)
-    yield n(2) + p(0, 1) + w(1, 1) + p(0, 1)
-    yield SAMPLE + b"W"
-    yield SAMPLE + b"\0"
-    yield SAMPLE + field("T", [1, 2])
-    yield field("n", [3]) + p(0, 0)
-
-
-def conflicts():
-    """Two things wrong in one field: the earlier check wins."""
-    yield b"X\0\5\1"  # cut short, unknown tag
-    yield b"N\0\5\1"  # cut short, wrong length
-    yield b"S\0\6\1"  # cut short, out of order
-    yield field("X", [1] * 300)  # unknown tag, no right length
-    yield field("X", [0]) + n(3)  # unknown tag, out of order
-    yield field("S", [0, 1])  # wrong length, out of order
-    yield n(2) + field("N", [0, 0])  # wrong length, out of order
-    yield n(2) + field("S", [1, 0, 1])  # wrong length, bad ends
-    yield n(2) + n(0)  # out of order, bad count
-    yield s(1, 0, (1, 1))  # out of order, bad ends
-    yield n(2) + p(0, 1) + s(0, 1, (20000, 0), (20000, 0))  # out of order, range, equal choices
-    yield n(2) + w(7000000, 0)  # out of order, weight range
-    yield n(2) + s(1, 0, (20000, 0))  # ends, range
-    yield n(2) + s(1, 0, (1, 1), (1, 1))  # ends, equal choices
-    yield n(2) + s(0, 1, (5, 5), (5, 5), (20000, 0))  # range, equal choices
-    yield n(2) + s(0, 1, (20000, 0), (20000, 0))  # range, equal choices
-    many = n(2) + s(0, 1, (1, 1)) * 1024
-    yield many + s(1, 0, (1, 1))  # too many, ends
-    yield many + s(0, 1, (20000, 0))  # too many, range
-    yield many + s(0, 1, (1, 1), (1, 1))  # too many, equal choices
-    yield n(2) + p(0, 1) + w(1, 1) * 16 + w(7000000, 0)  # too many, weight range
-
-
-def drawn(seed):
-    """A network by chance, with negative prices and losses and some nodes that nothing reaches."""
-    by = random.Random(seed)
-    nodes = by.randint(2, 12)
-    data = n(nodes)
-    for _ in range(by.randint(0, 20)):
-        tail = by.randrange(nodes - 1)
-        head = by.randrange(tail + 1, nodes)
-        choices = {(by.randint(-50, 50), by.randint(-50, 50)) for _ in range(by.randint(1, 8))}
-        data += s(tail, head, *sorted(choices))
-    start = by.randrange(nodes)
-    data += p(start, by.randrange(start, nodes))
-    for _ in range(by.randint(1, 6)):
-        data += w(by.randint(-6000000, 6000000), by.randint(-9, 9))
-    return data
 
 
 ROUND = joined(w(a, b) for a, b in [(0, 0), (1, 0), (1, 1), (0, 1), (-1, 1), (-1, 0), (-1, -1), (0, -1), (1, -1)])

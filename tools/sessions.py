@@ -7,7 +7,7 @@ repository's root; it writes crates/sessions/stdin and crates/sessions/stdout.
 """
 import random
 
-from corner_cases import n, p, s
+from cases import n, p, s
 from second import Refused, Takeoff, alone_cheapest, costs_by_node, counterclockwise, ray, route, weighted
 
 START, SETTLE, COUNT, CORNER, CONE, CHEAPEST, ROUTE = range(7)

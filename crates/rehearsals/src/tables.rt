@@ -18,6 +18,57 @@ const NONE: Size = Size {
     pressure: 0,
 };
 
+/// The sizes of the segment from the start to the first node.
+const TO_FIRST: [Size; 8] = [
+    Size {
+        price: 4,
+        pressure: 1,
+    },
+    Size {
+        price: 1,
+        pressure: 3,
+    },
+    NONE,
+    NONE,
+    NONE,
+    NONE,
+    NONE,
+    NONE,
+];
+
+/// The size of the segment that goes past it.
+const PAST: [Size; 8] = [
+    Size {
+        price: 3,
+        pressure: 3,
+    },
+    NONE,
+    NONE,
+    NONE,
+    NONE,
+    NONE,
+    NONE,
+    NONE,
+];
+
+/// The sizes of the segment from the first node to the target.
+const FROM_FIRST: [Size; 8] = [
+    Size {
+        price: 2,
+        pressure: 2,
+    },
+    Size {
+        price: 1,
+        pressure: 6,
+    },
+    NONE,
+    NONE,
+    NONE,
+    NONE,
+    NONE,
+    NONE,
+];
+
 /// The table of so many nodes and these records.
 fn filled(nodes: usize, records: &[Record]) -> Result<Table, Fault>
     ensures { MatchResult result (λ t. table_network t ≡ listed nodes records.now) (λ _. Accepted nodes records.now → ⊥) }
@@ -31,51 +82,6 @@ fn filled(nodes: usize, records: &[Record]) -> Result<Table, Fault>
 fn drawn_table() -> Result<Table, Fault>
     ensures { MatchResult result (λ t. table_network t ≡ drawn.network) (λ _. ⊥) }
 {
-    let to_first = [
-        Size {
-            price: 4,
-            pressure: 1,
-        },
-        Size {
-            price: 1,
-            pressure: 3,
-        },
-        NONE,
-        NONE,
-        NONE,
-        NONE,
-        NONE,
-        NONE,
-    ];
-    let past = [
-        Size {
-            price: 3,
-            pressure: 3,
-        },
-        NONE,
-        NONE,
-        NONE,
-        NONE,
-        NONE,
-        NONE,
-        NONE,
-    ];
-    let from_first = [
-        Size {
-            price: 2,
-            pressure: 2,
-        },
-        Size {
-            price: 1,
-            pressure: 6,
-        },
-        NONE,
-        NONE,
-        NONE,
-        NONE,
-        NONE,
-        NONE,
-    ];
     let table = filled(
         3,
         &[
@@ -83,19 +89,19 @@ fn drawn_table() -> Result<Table, Fault>
                 tail: 0,
                 head: 1,
                 count: 2,
-                sizes: to_first,
+                sizes: TO_FIRST,
             },
             Record {
                 tail: 0,
                 head: 2,
                 count: 1,
-                sizes: past,
+                sizes: PAST,
             },
             Record {
                 tail: 1,
                 head: 2,
                 count: 2,
-                sizes: from_first,
+                sizes: FROM_FIRST,
             },
         ],
     )?;
