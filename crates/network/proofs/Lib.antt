@@ -1,3 +1,4 @@
 pub mod Products
+pub mod SizeLists
 pub mod Lawful
 pub mod Routes

@@ -8,9 +8,13 @@ use Rattle.network.specs.Ranges.{Within}
 abbrev pub choice : List Size → ℕ → Size
 choice zs k = slice_index_or zs k (record { price = pos 0; pressure = pos 0 })
 
+-- price and pressure loss each lie within plus or minus n
+abbrev pub SizeWithin : ℕ → Size → Type 0
+SizeWithin n z = Within n z.price × Within n z.pressure
+
 -- a size that may be chosen
 abbrev pub InRange : Size → Type 0
-InRange z = Within 10000 z.price × Within 10000 z.pressure
+InRange z = SizeWithin 10000 z
 
 -- every choice is in its range
 abbrev pub Ranged : List Size → Type 0

@@ -1,5 +1,6 @@
 pub mod Ranges
 pub mod Choices
+pub mod Chosen
 pub mod Costs
 pub mod Faults
 pub mod Records

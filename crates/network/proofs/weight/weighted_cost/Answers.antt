@@ -2,7 +2,7 @@ use Rattle.std.proofs.Common.{◌≡◌, ◌*◌, ◌^◌, ℤ, ◌+ℤ◌, ◌*
 use Rattle.std.proofs.lemmas.Int.{to_z-of_z}
 use Rattle.network.specs.Ranges.{Within}
 use Rattle.network.proofs.Products.{within_product, within_32, sum_fits, sum_is}
-use Rattle.network.proofs.weighted.weighted_cost.Goals as goal
+use Rattle.network.proofs.weight.weighted_cost.Goals as goal
 
 passed : (a b r : ℤ) → SFits w32 a → SFits w32 b → r ≡ to_z w32 (of_z w32 a) *ℤ to_z w32 (of_z w32 b) → r ≡ a *ℤ b
 passed a b r f g e = simp to_z-of_z at e
