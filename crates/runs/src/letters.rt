@@ -10,13 +10,8 @@ fn joined_letters<K: Kind>(kind: &K, segment: &Segment) -> Option<K::Value>
     ensures { Lettered (K.Kind.ring kind.now) (K.Kind.means kind.now) (segment_arc segment.now) result }
 {
     let mut sum = kind.zero();
-    for k in 0..segment.listed.count {
-        if let Some(choice) = segment.choice(k) {
-            match kind.join(&sum, &kind.letter(choice)) {
-                Some(joined) => sum = joined,
-                None => return None,
-            }
-        }
+    for choice in segment.choices() {
+        sum = kind.join(&sum, &kind.letter(choice))?;
     }
     Some(sum)
 }
@@ -30,14 +25,7 @@ pub(crate) fn take_segment<K: Kind>(
 ) -> Result<K::Value, Stage>
     ensures { Taken (K.Kind.ring kind.now) (K.Kind.means kind.now) (segment_arc segment.now) (K.Kind.means kind.now tail.now) (K.Kind.means kind.now sum.now) result }
 {
-    let Some(letters) = joined_letters(kind, segment) else {
-        return Err(Stage::Choices);
-    };
-    let Some(more) = kind.chain(tail, &letters) else {
-        return Err(Stage::Chain);
-    };
-    match kind.join(sum, &more) {
-        Some(all) => Ok(all),
-        None => Err(Stage::Join),
-    }
+    let letters = joined_letters(kind, segment).ok_or(Stage::Choices)?;
+    let more = kind.chain(tail, &letters).ok_or(Stage::Chain)?;
+    kind.join(sum, &more).ok_or(Stage::Join)
 }

@@ -30,6 +30,7 @@ fn gather<K: Kind, S: Source>(
     let mut sum = beginning(kind, start, v);
     for e in 0..source.segments() {
         if let Some(segment) = source.entering(e, v) {
+            // A `map_err` would hide from the proof which fault its closure makes.
             match take_segment(kind, &segment, &held[segment.listed.tail], &sum) {
                 Ok(more) => sum = more,
                 Err(stage) => return Err(Fault::Misfit(v, e, stage)),

@@ -1,6 +1,6 @@
 //! A whole run.
-ghost use Rattle.std.specs.Prelude.{◌≡◌, length};
 ghost use Rattle.runs.specs.Runs.{Ran};
+ghost use Rattle.runs.specs.Sheets.{KeepsCells};
 
 use crate::node::node_value;
 use crate::sheet::Sheet;
@@ -18,8 +18,7 @@ pub fn run<K: Kind, S: Source>(
     start: usize,
     sheet: &mut Sheet<'_, K::Value>,
 ) -> Result<(), Fault>
-    ensures lent { sheet.new.cells.ghost_name ≡ sheet.old.cells.ghost_name }
-    ensures as_long { length sheet.new.cells.now ≡ length sheet.old.cells.now }
+    ensures keeps_its_cells { KeepsCells sheet.old sheet.new }
     ensures holds_the_join_over_all_routes { Ran (K.Kind.ring kind.now) (S.Source.network source.now) start (K.Kind.means kind.now) sheet.old.cells.now sheet.new.cells.now result }
 {
     let nodes = source.nodes();
@@ -30,12 +29,8 @@ pub fn run<K: Kind, S: Source>(
         return Err(Fault::NoRoom(0));
     }
     for v in 0..nodes {
-        match node_value(kind, source, start, v, sheet.all()) {
-            Ok(value) => {
-                let _ = sheet.put(v, value);
-            }
-            Err(fault) => return Err(fault),
-        }
+        let value = node_value(kind, source, start, v, sheet.all())?;
+        sheet.put(v, value);
     }
     Ok(())
 }

@@ -23,11 +23,7 @@ fn store<T: Drop>(cells: &mut [T], v: usize, x: T) -> bool
 fn load<T>(cells: &[T], v: usize) -> Option<&T>
     ensures { MatchOption result (length cells.now ≤ v) (λ x. (v < length cells.now) × ((d : T) → x.now ≡ slice_index_or cells.now v d)) }
 {
-    if v < cells.len() {
-        Some(&cells[v])
-    } else {
-        None
-    }
+    cells.get(v)
 }
 
 impl<'a, T: Drop> Sheet<'a, T> {
