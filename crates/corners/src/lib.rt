@@ -1,9 +1,10 @@
 //! Corner lists: what a run of the polygon kind comes to, said of the routes.
 #![tactic(auto)]
 
-ghost use Rattle.std.specs.Prelude.{◌≡◌, ℕ, List, length};
+ghost use Rattle.std.specs.Prelude.{◌≡◌, ℕ, List};
 ghost use Rattle.network.specs.Networks.{Network};
 ghost use Rattle.geometry.specs.Plane.{Pt};
+ghost use Rattle.runs.specs.Sheets.{KeepsCells};
 ghost use Rattle.corners.specs.CornerLists.{CornersFound, CornersOf};
 
 use network::Fault;
@@ -20,8 +21,7 @@ pub fn corner_lists<S: Source>(
     start: usize,
     sheet: &mut Sheet<'_, Polygon>,
 ) -> Result<(), Fault>
-    ensures lent { sheet.new.cells.ghost_name ≡ sheet.old.cells.ghost_name }
-    ensures as_long { length sheet.new.cells.now ≡ length sheet.old.cells.now }
+    ensures keeps_its_cells { KeepsCells sheet.old sheet.new }
     ensures holds_each_corner_list { CornersFound (S.Source.network source.now) start sheet.old.cells.now sheet.new.cells.now result }
 {
     run(&Hulls, source, start, sheet)

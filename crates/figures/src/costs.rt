@@ -1,6 +1,6 @@
 //! The least costs at a weight.
-ghost use Rattle.std.specs.Prelude.{◌≡◌, length};
 ghost use Rattle.figures.specs.Leasts.{LeastsFound};
+ghost use Rattle.runs.specs.Sheets.{KeepsCells};
 
 use kinds::{Amount, Least};
 use network::{Fault, Weight};
@@ -16,12 +16,9 @@ pub fn least_costs<S: Source>(
     weight: Weight,
     sheet: &mut Sheet<'_, Option<Amount>>,
 ) -> Result<(), Fault>
-    ensures lent { sheet.new.cells.ghost_name ≡ sheet.old.cells.ghost_name }
-    ensures as_long { length sheet.new.cells.now ≡ length sheet.old.cells.now }
+    ensures keeps_its_cells { KeepsCells sheet.old sheet.new }
     ensures holds_each_least_cost { LeastsFound (S.Source.network source.now) start weight sheet.old.cells.now sheet.new.cells.now result }
 {
-    match Least::new(weight) {
-        Ok(kind) => run(&kind, source, start, sheet),
-        Err(fault) => Err(fault),
-    }
+    let kind = Least::new(weight)?;
+    run(&kind, source, start, sheet)
 }

@@ -1,6 +1,6 @@
 //! The number of routes.
-ghost use Rattle.std.specs.Prelude.{◌≡◌, length};
 ghost use Rattle.figures.specs.Counts.{CountsFound};
+ghost use Rattle.runs.specs.Sheets.{KeepsCells};
 
 use kinds::{Count, Tally};
 use network::Fault;
@@ -14,8 +14,7 @@ pub fn count_routes<S: Source>(
     start: usize,
     sheet: &mut Sheet<'_, Tally>,
 ) -> Result<(), Fault>
-    ensures lent { sheet.new.cells.ghost_name ≡ sheet.old.cells.ghost_name }
-    ensures as_long { length sheet.new.cells.now ≡ length sheet.old.cells.now }
+    ensures keeps_its_cells { KeepsCells sheet.old sheet.new }
     ensures holds_the_number_of_routes { CountsFound (S.Source.network source.now) start sheet.old.cells.now sheet.new.cells.now result }
 {
     run(&Count, source, start, sheet)

@@ -23,8 +23,5 @@ pub fn least_cost<S: Source>(
     if target >= source.nodes() {
         return Err(Fault::BadNode(0));
     }
-    match sheet.read(target) {
-        Some(least) => Ok(*least),
-        None => Ok(None),
-    }
+    Ok(sheet.read(target).copied().flatten())
 }
