@@ -2,7 +2,7 @@
 ghost use Rattle.std.specs.Prelude.{◌≡◌, ◌<◌, ◌≤◌, length, MatchOption};
 ghost use Rattle.geometry.specs.Plane.{nth};
 ghost use Rattle.geometry.specs.Polygons.{ray};
-ghost use Rattle.polygons.specs.Points.{place};
+ghost use Rattle.polygons.specs.Points.{place, places};
 ghost use Rattle.polygons.specs.Corners.{corner_list};
 ghost use Rattle.polygons.specs.Rays.{heading, Cone};
 
@@ -31,6 +31,13 @@ impl Polygon {
         ensures { result ≡ length (corner_list self.now) }
     {
         self.count
+    }
+
+    /// The corners in order, anticlockwise from the least one.
+    pub fn corners(&self) -> &[Cost]
+        ensures { places result.now ≡ corner_list self.now }
+    {
+        &self.corners[..self.count]
     }
 
     /// Corner number k, which there is.
