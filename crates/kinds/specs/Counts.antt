@@ -8,9 +8,13 @@ use Rattle.kinds.specs.declared.tally.Tally.{Tally}
 abbrev pub Counted : Type 0
 Counted = (n : ℕ) × (n ≤ 1000000)
 
+-- a cut number is at most a million
+pub cut_few : (n : ℕ) → min n 1000000 ≤ 1000000
+cut_few n = omega arith
+
 -- a number cut at a million
 abbrev pub cut : ℕ → Counted
-cut n = (min n 1000000, omega arith)
+cut n = (min n 1000000, cut_few n)
 
 -- join adds, chain multiplies, and a choice counts one
 abbrev pub counts : Algebra

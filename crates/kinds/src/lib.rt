@@ -5,7 +5,6 @@ mod amount;
 mod count;
 mod kind;
 mod least;
-mod leasts;
 mod tally;
 
 pub use amount::Amount;
