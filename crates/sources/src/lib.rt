@@ -1,10 +1,10 @@
 //! Sources: where a network comes from.
 #![tactic(auto)]
 
-mod filling;
-mod listed;
+mod front;
 mod source;
 mod table;
 
+pub use front::overwrite_front;
 pub use source::Source;
 pub use table::Table;

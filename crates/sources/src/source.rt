@@ -30,15 +30,6 @@ pub trait Source {
     fn entering(&self, e: usize, v: usize) -> Option<Segment>
         ensures { MatchOption result (Missing (network self.now) e v) (λ s. Enters (network self.now) e v s) }
     {
-        match self.segment(e) {
-            Some(segment) => {
-                if segment.listed.head == v {
-                    Some(segment)
-                } else {
-                    None
-                }
-            }
-            None => None,
-        }
+        self.segment(e).filter(|segment| segment.listed.head == v)
     }
 }

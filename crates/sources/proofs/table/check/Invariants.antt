@@ -1,5 +1,5 @@
 use Rattle.sources.specs.Filling.{LawfulTo}
-use Rattle.sources.proofs.filling.look_at_records.Given as goal
+use Rattle.sources.proofs.table.check.Given as goal
 
 abbrev pub invariant-loop-e : goal.invariant-loop-e
 invariant-loop-e l = LawfulTo l.nodes l.records l.e
