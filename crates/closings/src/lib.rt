@@ -3,8 +3,6 @@
 
 mod avoiding;
 mod closing;
-mod shutting;
-mod sparing;
 
 pub use avoiding::{closings_add_up, routes_avoid_closed_nodes};
 pub use closing::Closing;
