@@ -1,5 +1,5 @@
 -- What the functions inside the reader promise one another. Assumes nothing.
-use Rattle.std.specs.Prelude.{◌≡◌, ℕ, ◌+◌, ◌<◌, ◌≤◌, Bool, true, false, List, ◌++◌, length, Result, slice_set}
+use Rattle.std.specs.Prelude.{◌≡◌, ℕ, ◌+◌, ◌<◌, ◌≤◌, Bool, true, false, List, ◌++◌, length, Ok, Err, Result, slice_set}
 use Rattle.std.specs.List.{flat_map, AllByRecursion}
 use Rattle.network.specs.declared.record.Record.{Record}
 use Rattle.network.specs.declared.weight.Weight.{Weight}
@@ -15,6 +15,7 @@ use Rattle.takeoff.specs.declared.order.Stage.{Stage}
 use Rattle.takeoff.specs.declared.order.Stage.TheVariants as stage
 use Rattle.takeoff.specs.declared.tag.Tag.{Tag}
 use Rattle.takeoff.specs.declared.tag.Tag.TheVariants as tag
+use Rattle.takeoff.specs.declared.tag.NoTag.{NoTag}
 use Rattle.takeoff.specs.declared.values.Item.{Item}
 use Rattle.takeoff.specs.declared.values.Item.TheVariants as item
 use Rattle.takeoff.specs.declared.reader.Reader.{Reader}
@@ -28,6 +29,11 @@ form_of tag.Nodes = N
 form_of tag.Segment = S
 form_of tag.Points = P
 form_of tag.Weight = W
+
+-- what is made of a byte: the tag whose letter it is, or that it is none
+abbrev pub Tagged : ℕ → Result Tag NoTag → Type 0
+Tagged b (Ok t) = letter (form_of t) ≡ b
+Tagged b (Err e) = Known b → ⊥
 
 abbrev pub said : Item → Field
 said (item.Nodes n) = Nodes n

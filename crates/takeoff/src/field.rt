@@ -3,7 +3,7 @@ ghost use Rattle.std.specs.Prelude.{◌≡◌, ◌+◌, length, IfSome, MatchOpt
 ghost use Rattle.takeoff.specs.Refusals.{Torn, Begins};
 
 /// A field that was cut off: its tag byte, its value, and the bytes that follow it.
-#[derive(Clone, Copy)]
+#[derive(Clone, Copy, Debug, PartialEq, Eq)]
 pub struct Cut<'a> {
     pub tag: u8,
     pub body: &'a [u8],

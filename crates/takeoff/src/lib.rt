@@ -11,13 +11,11 @@ mod header;
 mod order;
 mod reader;
 mod tag;
-mod taking;
 mod theorem;
 mod values;
 
 pub use header::Header;
 use network::{Fault, Record, Weight};
-use order::Stage;
 use reader::Reader;
 pub use theorem::one_file_one_takeoff;
 
@@ -36,16 +34,5 @@ pub fn read(bytes: &[u8], segments: &mut [Record], weights: &mut [Weight]) -> Re
     ensures writes_the_weights { Leaves (length segments.old) (length weights.old) bytes.now result weights_of (λ w. w) weights.old weights.new }
     ensures keeps_both_lengths { (length segments.new ≡ length segments.old) × (length weights.new ≡ length weights.old) }
 {
-    let mut reader = Reader {
-        at: 0,
-        stage: Stage::Start,
-        header: Header {
-            nodes: 0,
-            start: 0,
-            target: 0,
-            segments: 0,
-            weights: 0,
-        },
-    };
-    reader.run(bytes, segments, weights)
+    Reader::default().run(bytes, segments, weights)
 }

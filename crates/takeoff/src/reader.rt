@@ -12,8 +12,9 @@ use crate::tag::Tag;
 use crate::values::decode;
 use network::{Fault, Record, Weight};
 
-/// How far the file was read, and what it said but for the segments and weights themselves.
-#[derive(Clone, Copy)]
+/// How far the file was read, and what it said but for the segments and weights themselves. The default has read
+/// nothing.
+#[derive(Clone, Copy, Debug, Default, PartialEq, Eq)]
 pub struct Reader {
     pub at: usize,
     pub stage: Stage,
@@ -32,37 +33,28 @@ impl Reader {
         requires { self.old.at + length bytes.now < 2 ^ 64 }
         ensures { MatchResult result (λ x. Stepped self.old self.new bytes.now x.now segments.old segments.new weights.old weights.new) (λ f. Halted self.old bytes.now f segments.old segments.new weights.old weights.new) }
     {
-        let Some(cut) = first_field(bytes) else {
-            return Err(Fault::CutShort(self.at));
-        };
-        let Some(tag) = Tag::of(cut.tag) else {
-            return Err(Fault::UnknownTag(self.at));
-        };
+        let cut = first_field(bytes).ok_or(Fault::CutShort(self.at))?;
+        let tag = Tag::try_from(cut.tag).map_err(|_| Fault::UnknownTag(self.at))?;
         if !tag.allows(cut.body.len()) {
             return Err(Fault::WrongLength(self.at));
         }
-        if !self.stage.advance(tag) {
-            return Err(Fault::OutOfOrder(self.at));
-        }
-        match self
-            .header
-            .take(decode(tag, cut.body), self.at, segments, weights)
-        {
-            Ok(()) => {
-                self.at += 3 + cut.body.len();
-                Ok(cut.rest)
-            }
-            Err(fault) => Err(fault),
-        }
+        self.stage
+            .advance(tag)
+            .ok_or(Fault::OutOfOrder(self.at))?;
+        self.header
+            .take(decode(tag, cut.body), self.at, segments, weights)?;
+        self.at += 3 + cut.body.len();
+        Ok(cut.rest)
     }
 
     /// The header where nothing is missing. Refuses with 4 where the points have not been read.
     fn end(&self) -> Result<Header, Fault>
         ensures { MatchResult result (λ h. (self.now.stage ≡ StageIs.Aiming) × (h ≡ self.now.header)) (λ f. (f ≡ OutOfOrder self.now.at) × (self.now.stage ≢ StageIs.Aiming)) }
     {
-        match self.stage {
-            Stage::Aiming => Ok(self.header),
-            _ => Err(Fault::OutOfOrder(self.at)),
+        if self.stage == Stage::Aiming {
+            Ok(self.header)
+        } else {
+            Err(Fault::OutOfOrder(self.at))
         }
     }
 
@@ -79,10 +71,7 @@ impl Reader {
     {
         let mut rest = bytes;
         while !rest.is_empty() {
-            match self.step(rest, segments, weights) {
-                Ok(more) => rest = more,
-                Err(fault) => return Err(fault),
-            }
+            rest = self.step(rest, segments, weights)?;
         }
         self.end()
     }

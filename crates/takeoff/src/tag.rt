@@ -1,11 +1,10 @@
 //! The tags of fields.
-ghost use Rattle.std.specs.Prelude.{◌≡◌, Decides, MatchOption};
-ghost use Rattle.takeoff.specs.Format.{letter, Fitting};
-ghost use Rattle.takeoff.specs.Refusals.{Known};
-ghost use Rattle.takeoff.specs.Inner.{form_of};
+ghost use Rattle.std.specs.Prelude.{Decides};
+ghost use Rattle.takeoff.specs.Format.{Fitting};
+ghost use Rattle.takeoff.specs.Inner.{form_of, Tagged};
 
 /// The four tags.
-#[derive(Clone, Copy)]
+#[derive(Clone, Copy, Debug, PartialEq, Eq)]
 pub enum Tag {
     Nodes,
     Segment,
@@ -13,20 +12,28 @@ pub enum Tag {
     Weight,
 }
 
-impl Tag {
-    /// The tag that a byte stands for; none where it is no tag.
-    pub(crate) fn of(byte: u8) -> Option<Tag>
-        ensures { MatchOption result (Known byte → ⊥) (λ t. letter (form_of t) ≡ byte) }
-    {
+/// That a byte is none of the tags.
+#[derive(Clone, Copy, Debug, PartialEq, Eq)]
+pub struct NoTag;
+
+impl TryFrom<u8> for Tag {
+    type Error = NoTag;
+
+    ghost try_from_gives = { Tagged };
+
+    /// The tag that a byte stands for; refuses where it is no tag.
+    fn try_from(byte: u8) -> Result<Tag, NoTag> {
         match char::from(byte) {
-            'N' => Some(Tag::Nodes),
-            'S' => Some(Tag::Segment),
-            'P' => Some(Tag::Points),
-            'W' => Some(Tag::Weight),
-            _ => None,
+            'N' => Ok(Tag::Nodes),
+            'S' => Ok(Tag::Segment),
+            'P' => Ok(Tag::Points),
+            'W' => Ok(Tag::Weight),
+            _ => Err(NoTag),
         }
     }
+}
 
+impl Tag {
     /// Whether a value under this tag may have so many bytes.
     pub(crate) fn allows(self, length: usize) -> bool
         ensures { Decides result (Fitting (form_of self) length) }

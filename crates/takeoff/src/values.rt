@@ -7,7 +7,7 @@ use crate::tag::Tag;
 use network::{Record, Size, Weight};
 
 /// What a field says, unchecked.
-#[derive(Clone, Copy)]
+#[derive(Clone, Copy, Debug, PartialEq, Eq)]
 pub enum Item {
     Nodes(usize),
     Segment(Record),
@@ -30,9 +30,10 @@ fn from_four(a: u8, b: u8, c: u8, d: u8) -> i32
 }
 
 /// The choice that four bytes say.
-fn size_from(a: u8, b: u8, c: u8, d: u8) -> Size
-    ensures { (size_bytes result ≡ a ∷ b ∷ c ∷ d ∷ []) × (Short result) }
+fn size_from(bytes: &[u8; 4]) -> Size
+    ensures { (size_bytes result ≡ bytes.now) × (Short result) }
 {
+    let [a, b, c, d] = *bytes;
     Size {
         price: from_two(a, b),
         pressure: from_two(c, d),
@@ -44,21 +45,15 @@ fn segment_from(tail: usize, head: usize, bytes: &[u8]) -> Record
     requires { (choices : ℕ) × (choices ≤ 8) × (length bytes.now ≡ 4 * choices) }
     ensures { Listing tail head bytes.now result }
 {
-    let mut sizes = [Size {
-        price: 0,
-        pressure: 0,
-    }; 8];
-    let mut count = 0;
-    let mut rest = bytes;
-    while let [a, b, c, d, more @ ..] = rest {
-        sizes[count] = size_from(*a, *b, *c, *d);
-        count += 1;
-        rest = more;
+    let (chunks, _) = bytes.as_chunks();
+    let mut sizes = [Size::default(); 8];
+    for (j, chunk) in chunks.iter().enumerate() {
+        sizes[j] = size_from(chunk);
     }
     Record {
         tail,
         head,
-        count,
+        count: chunks.len(),
         sizes,
     }
 }

@@ -1,21 +1,20 @@
-use Rattle.std.proofs.Common.{◌<◌, ◌≤◌, length, refl, arith, rules}
-use Rattle.takeoff.proofs.Spelling.{spelt_more, spelt_all}
+use Rattle.std.proofs.Common.{◌≡◌, ◌<◌, length, refl, arith, subst}
+use Rattle.takeoff.proofs.Spelling.{Spelt, spelt_more, spelt_all}
 use Rattle.takeoff.proofs.values.segment_from.Goals as goal
 
-pub loop-rest-preserved : goal.loop-rest-preserved
-loop-rest-preserved c =
-    let enough : 4 ≤ length c.loop-rest.rest.now = search rules in
-    let free : c.loop-rest.count < 8 = omega (arith, c.requires.1, c.requires.2, c.loop-rest.invariant.long) in
-    spelt_more c.args.bytes.now c.loop-rest.rest.now c.loop-rest.sizes c.loop-rest.count c.size_from.result
-    c.loop-rest.invariant enough free c.size_from.ensures.0 c.size_from.ensures.1
+pub loop-j-preserved : goal.loop-j-preserved
+loop-j-preserved c =
+    let free : c.loop-j.j < 8 = omega (arith, c.requires.1, c.requires.2, c.as_chunks.ensures.front_len) in
+    spelt_more c.as_chunks.result.0.now c.loop-j.sizes c.loop-j.j c.size_from.result c.loop-j.invariant c.loop-j-test.true free c.size_from.ensures.0 c.size_from.ensures.1
 
 pub returns : goal.returns
 returns c =
-    let few : length c.loop-rest.rest.now < 4 = search rules in
+    let all : c.loop-j.j ≡ length c.as_chunks.result.0.now = omega arith in
+    let whole = subst (Spelt c.as_chunks.result.0.now c.loop-j.sizes) all c.loop-j.invariant in
     record {
       from = refl;
       to = refl;
-      few = omega (arith, c.requires.1, c.requires.2, c.loop-rest.invariant.long);
-      spells = spelt_all c.args.bytes.now c.loop-rest.rest.now c.loop-rest.sizes c.loop-rest.count c.requires.0 c.loop-rest.invariant few c.requires.2;
-      short = c.loop-rest.invariant.short;
+      few = omega (arith, c.requires.1, c.requires.2, c.as_chunks.ensures.front_len);
+      spells = spelt_all c.args.bytes.now c.as_chunks.result.0.now c.loop-j.sizes c.requires.0 c.as_chunks.ensures.front whole c.requires.2;
+      short = whole.short;
     }

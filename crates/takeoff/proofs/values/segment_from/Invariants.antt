@@ -1,9 +1,5 @@
-use Rattle.std.proofs.Common.{length}
 use Rattle.takeoff.proofs.Spelling.{Spelt}
 use Rattle.takeoff.proofs.values.segment_from.Given as goal
 
-abbrev pub invariant-loop-rest : goal.invariant-loop-rest
-invariant-loop-rest l = Spelt l.bytes l.rest l.sizes l.count
-
-abbrev pub decreases-loop-rest : goal.decreases-loop-rest
-decreases-loop-rest l = length l.rest
+abbrev pub invariant-loop-j : goal.invariant-loop-j
+invariant-loop-j l = Spelt l.chunks l.sizes l.j
