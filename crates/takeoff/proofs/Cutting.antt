@@ -1,8 +1,8 @@
 -- Bytes begin with a field, or end inside one. Assumes nothing.
-use Rattle.std.proofs.Common.{◌≡◌, ℕ, ◌+◌, ◌-◌, ◌*◌, ◌/◌, ◌%◌, ◌<◌, ◌≤◌, List, [], ◌∷◌, ◌++◌, length, get_or, take, drop, replicate, sym, refl, ap, ◌∙◌, arith}
-use Rattle.std.proofs.lemmas.List.{length-append, length-replicate, length-take-le, take-append-drop, take_rest}
+use Rattle.std.proofs.Common.{◌≡◌, ℕ, ◌+◌, ◌-◌, ◌*◌, ◌/◌, ◌%◌, ◌<◌, ◌≤◌, List, [], ◌∷◌, ◌++◌, length, get_or, take, drop, replicate, refl, ap, arith}
+use Rattle.std.proofs.lemmas.List.{length-append, length-replicate, take_rest}
 use Rattle.takeoff.specs.Format.{framed}
-use Rattle.takeoff.specs.Refusals.{Torn, Begins}
+use Rattle.takeoff.specs.Refusals.{Torn}
 
 -- the two bytes of a length say it
 framed_whole : (t h l : ℕ) (v : List ℕ) → l < 256 → length v ≡ h * 256 + l → t ∷ h ∷ l ∷ v ≡ framed t v
@@ -58,23 +58,3 @@ torn_late (t ∷ u ∷ l ∷ v) byte three h =
       short = omega arith;
       whole = framed_whole t u l (v ++ gap) low exact;
     }
-
--- a whole field, cut in two behind its length
-pub whole_field : (b value rest : List ℕ) → ((i : ℕ) → get_or b i 0 < 256) → 3 ≤ length b →
-    get_or b 1 0 * 256 + get_or b 2 0 ≤ length (take (length b - 3) (drop 3 b)) →
-    value ≡ take (get_or b 1 0 * 256 + get_or b 2 0) (take (length b - 3) (drop 3 b)) →
-    rest ≡ drop (get_or b 1 0 * 256 + get_or b 2 0) (take (length b - 3) (drop 3 b)) → Begins b (get_or b 0 0) value rest
-whole_field [] value rest byte three h front back = absurd (omega arith)
-whole_field (t ∷ []) value rest byte three h front back = absurd (omega arith)
-whole_field (t ∷ u ∷ []) value rest byte three h front back = absurd (omega arith)
-whole_field (t ∷ u ∷ l ∷ v) value rest byte three h front back =
-    let high : u < 256 = byte 1 in
-    let low : l < 256 = byte 2 in
-    let all = take_rest (t ∷ u ∷ l ∷ v) 3 in
-    let left = ap length all in
-    let value_is : value ≡ take (u * 256 + l) v = front ∙ ap (take (u * 256 + l)) all in
-    let rest_is : rest ≡ drop (u * 256 + l) v = back ∙ ap (drop (u * 256 + l)) all in
-    let joined : value ++ rest ≡ v = ap (λ (x : List ℕ). x ++ rest) value_is ∙ ap (λ (x : List ℕ). take (u * 256 + l) v ++ x) rest_is ∙ take-append-drop (u * 256 + l) v in
-    let fits : u * 256 + l ≤ length v = omega arith in
-    let long : length value ≡ u * 256 + l = ap length value_is ∙ length-take-le (u * 256 + l) v fits in
-    (ap (λ (x : List ℕ). t ∷ u ∷ l ∷ x) (sym joined) ∙ ap (λ (x : List ℕ). x ++ rest) (framed_whole t u l value low long), omega arith)

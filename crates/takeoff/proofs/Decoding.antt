@@ -2,14 +2,14 @@
 use Rattle.std.proofs.Common.{◌≡◌, ℕ, ◌-◌, ◌*◌, ◌<◌, ◌≤◌, List, [], ◌∷◌, ◌++◌, length, get_or, take, drop, ℤ, sym, refl, ap, ◌∙◌, subst, arith, w32, SFits, to_z, of_z}
 use Rattle.std.specs.List.{flat_map}
 use Rattle.std.proofs.lemmas.List.{length-take, take_rest}
-use Rattle.std.proofs.lemmas.Int.{to_z-of_z, ints}
+use Rattle.std.proofs.lemmas.Int.{to_z-of_z}
 use Rattle.network.specs.declared.record.Record.{Record}
 use Rattle.network.specs.declared.size.Size.{Size}
 use Rattle.network.specs.Choices.{choices}
 use Rattle.takeoff.specs.declared.tag.Tag.{Tag}
 use Rattle.takeoff.specs.declared.tag.Tag.TheVariants as tag
 use Rattle.takeoff.specs.declared.values.Item.TheVariants as item
-use Rattle.takeoff.specs.Format.{Fitting, In32, two, four, size_bytes}
+use Rattle.takeoff.specs.Format.{Fitting, two, size_bytes}
 use Rattle.takeoff.specs.Inner.{form_of, Decoded, Listing}
 
 one_only : (v : List ℕ) → length v ≡ 1 → v ≡ get_or v 0 0 ∷ []
@@ -36,34 +36,12 @@ four_only (x ∷ v) e = ap (λ (u : List ℕ). x ∷ u) (three_only v (omega ari
     three_only [] e = absurd (omega arith)
     three_only (y ∷ u) e = ap (λ (s : List ℕ). y ∷ s) (two_only u (omega arith))
 
-eight_only : (v : List ℕ) → length v ≡ 8 →
-    v ≡ get_or v 0 0 ∷ get_or v 1 0 ∷ get_or v 2 0 ∷ get_or v 3 0 ∷ get_or v 4 0 ∷ get_or v 5 0 ∷ get_or v 6 0 ∷ get_or v 7 0 ∷ []
-eight_only [] e = absurd (omega arith)
-eight_only (a ∷ []) e = absurd (omega arith)
-eight_only (a ∷ b ∷ []) e = absurd (omega arith)
-eight_only (a ∷ b ∷ c ∷ []) e = absurd (omega arith)
-eight_only (a ∷ b ∷ c ∷ d ∷ v) e = ap (λ (u : List ℕ). a ∷ b ∷ c ∷ d ∷ u) (four_only v (omega arith))
-
-in_32 : (z : ℤ) → SFits w32 z → In32 z
-in_32 z f = (omega (arith, ints), omega (arith, ints))
-
 -- two numbers that come back from their bits, in two bytes each
 pub size_spells : (v : List ℕ) (a b : ℤ) → SFits w32 a → SFits w32 b → length v ≡ 4 → two a ≡ get_or v 0 0 ∷ get_or v 1 0 ∷ [] → two b ≡ get_or v 2 0 ∷ get_or v 3 0 ∷ [] →
     two (to_z w32 (of_z w32 a)) ++ two (to_z w32 (of_z w32 b)) ≡ v
 size_spells v a b fa fb long ea eb =
     ap (λ (z : ℤ). two z ++ two (to_z w32 (of_z w32 b))) (to_z-of_z w32 a fa) ∙ ap (λ (z : ℤ). two a ++ two z) (to_z-of_z w32 b fb)
     ∙ ap (λ (x : List ℕ). x ++ two b) ea ∙ ap (λ (x : List ℕ). (get_or v 0 0 ∷ get_or v 1 0 ∷ []) ++ x) eb ∙ sym (four_only v long)
-
--- in four bytes each
-module _ (v : List ℕ) (a b : ℤ) (fa : SFits w32 a) (fb : SFits w32 b) where
-  pub weight_spells : length v ≡ 8 → four a ≡ get_or v 0 0 ∷ get_or v 1 0 ∷ get_or v 2 0 ∷ get_or v 3 0 ∷ [] → four b ≡ get_or v 4 0 ∷ get_or v 5 0 ∷ get_or v 6 0 ∷ get_or v 7 0 ∷ [] →
-      four (to_z w32 (of_z w32 a)) ++ four (to_z w32 (of_z w32 b)) ≡ v
-  weight_spells long ea eb =
-      ap (λ (z : ℤ). four z ++ four (to_z w32 (of_z w32 b))) (to_z-of_z w32 a fa) ∙ ap (λ (z : ℤ). four a ++ four z) (to_z-of_z w32 b fb)
-      ∙ ap (λ (x : List ℕ). x ++ four b) ea ∙ ap (λ (x : List ℕ). (get_or v 0 0 ∷ get_or v 1 0 ∷ get_or v 2 0 ∷ get_or v 3 0 ∷ []) ++ x) eb ∙ sym (eight_only v long)
-
-  pub weight_sayable : In32 (to_z w32 (of_z w32 a)) × In32 (to_z w32 (of_z w32 b))
-  weight_sayable = (subst In32 (sym (to_z-of_z w32 a fa)) (in_32 a fa), subst In32 (sym (to_z-of_z w32 b fb)) (in_32 b fb))
 
 -- four bytes a choice
 pub sizes_long : (zs : List Size) → length (flat_map size_bytes zs) ≡ 4 * length zs

@@ -15,19 +15,13 @@ pub(crate) fn first_field(bytes: &[u8]) -> Option<Cut<'_>>
     ensures cuts { MatchOption result (Torn bytes.now) (λ f. Begins bytes.now f.tag f.body.now f.rest.now) }
     ensures parts { IfSome result (λ f. 3 + length f.body.now + length f.rest.now ≡ length bytes.now) }
 {
-    match bytes {
-        [tag, hi, lo, rest @ ..] => {
-            let length = usize::from(*hi) * 256 + usize::from(*lo);
-            if rest.len() < length {
-                return None;
-            }
-            let (body, rest) = rest.split_at(length);
-            Some(Cut {
-                tag: *tag,
-                body,
-                rest,
-            })
-        }
-        _ => None,
-    }
+    let [tag, hi, lo, rest @ ..] = bytes else {
+        return None;
+    };
+    let (body, rest) = rest.split_at_checked(usize::from(*hi) * 256 + usize::from(*lo))?;
+    Some(Cut {
+        tag: *tag,
+        body,
+        rest,
+    })
 }

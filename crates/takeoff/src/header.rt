@@ -9,6 +9,7 @@ pub struct Header {
     pub nodes: usize,
     pub start: usize,
     pub target: usize,
+    // How much of the caller's two places is filled, and not lists that grow: no call is to fail for want of memory.
     pub segments: usize,
     pub weights: usize,
 }
@@ -86,6 +87,9 @@ impl Header {
         self.weights += 1;
         Ok(())
     }
+
+    // The two places are given side by side here and in the reader, and not as one struct of two exclusive references,
+    // which would be no plainer: each contract says of either place by itself what it holds before and after.
 
     /// Takes what a field says, or refuses it with the number of the first check that fails; the fault has the
     /// given place.

@@ -38,9 +38,7 @@ impl Reader {
         if !tag.allows(cut.body.len()) {
             return Err(Fault::WrongLength(self.at));
         }
-        self.stage
-            .advance(tag)
-            .ok_or(Fault::OutOfOrder(self.at))?;
+        self.stage.advance(tag).ok_or(Fault::OutOfOrder(self.at))?;
         self.header
             .take(decode(tag, cut.body), self.at, segments, weights)?;
         self.at += 3 + cut.body.len();

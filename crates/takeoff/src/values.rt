@@ -1,6 +1,6 @@
 //! What the value of a field says.
 ghost use Rattle.std.specs.Prelude.{◌≡◌, ℕ, ◌+◌, ◌*◌, ◌≤◌, [], ◌∷◌, length};
-ghost use Rattle.takeoff.specs.Format.{Fitting, Weighing, Sayable, value, two, four, size_bytes, In16, Short};
+ghost use Rattle.takeoff.specs.Format.{Fitting, Weighing, Sayable, value, two, four, size_bytes, In16, In32, Short};
 ghost use Rattle.takeoff.specs.Inner.{form_of, Decoded, Listing};
 
 use crate::tag::Tag;
@@ -23,10 +23,10 @@ fn from_two(hi: u8, lo: u8) -> i32
 }
 
 /// The number that four bytes say.
-fn from_four(a: u8, b: u8, c: u8, d: u8) -> i32
-    ensures { four result ≡ a ∷ b ∷ c ∷ d ∷ [] }
+fn from_four(bytes: &[u8; 4]) -> i32
+    ensures { (four result ≡ bytes.now) × (In32 result) }
 {
-    i32::from_be_bytes([a, b, c, d])
+    i32::from_be_bytes(*bytes)
 }
 
 /// The choice that four bytes say.
@@ -63,9 +63,10 @@ fn weight_from(body: &[u8]) -> Weight
     requires { length body.now ≡ 8 }
     ensures { (value (Weighing result) ≡ body.now) × (Sayable (Weighing result)) }
 {
+    let (parts, _) = body.as_chunks();
     Weight {
-        a: from_four(body[0], body[1], body[2], body[3]),
-        b: from_four(body[4], body[5], body[6], body[7]),
+        a: from_four(&parts[0]),
+        b: from_four(&parts[1]),
     }
 }
 
