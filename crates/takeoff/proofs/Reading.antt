@@ -1,21 +1,19 @@
 -- The turns and the ends of the reading loop. Assumes nothing.
-use Rattle.std.proofs.Common.{◌≡◌, ℕ, ◌+◌, ◌<◌, ◌≤◌, true, List, [], ◌++◌, length, Ok, Err, Result, sym, refl, ap, ◌∙◌, subst, arith, MatchResult}
-use Rattle.std.proofs.lemmas.List.{append-nil, append_assoc, length-append, nil_from_length}
+use Rattle.std.proofs.Common.{◌≡◌, ℕ, ◌+◌, ◌<◌, ◌≤◌, true, List, [], ◌++◌, length, Err, sym, refl, ap, ◌∙◌, subst, arith}
+use Rattle.std.proofs.lemmas.List.{append_assoc, length-append}
 use Rattle.network.specs.declared.fault.Fault.{Fault}
-use Rattle.network.specs.declared.fault.Fault.TheVariants as fault
 use Rattle.network.specs.declared.fault.Place.TheVariants.{At}
 use Rattle.network.specs.declared.record.Record.{Record}
 use Rattle.network.specs.declared.weight.Weight.{Weight}
-use Rattle.network.specs.Faults.{number, place}
+use Rattle.network.specs.Faults.{number}
 use Rattle.network.specs.Networks.{arc}
 use Rattle.takeoff.specs.declared.header.Header.{Header}
 use Rattle.takeoff.specs.declared.order.Stage.{Stage}
-use Rattle.takeoff.specs.declared.order.Stage.TheVariants as stage
 use Rattle.takeoff.specs.declared.reader.Reader.{Reader}
 use Rattle.takeoff.specs.Format.{form, spelled}
-use Rattle.takeoff.specs.Takeoff.{Contents, Empty, Drawn, Aimed, encode, Complete, arcs_of, weights_of, header_of}
-use Rattle.takeoff.specs.Refusals.{InOrder, EndsEarly}
-use Rattle.takeoff.specs.Answers.{Ends, Holds, FrontCounted}
+use Rattle.takeoff.specs.Takeoff.{Empty, encode, arcs_of, weights_of, header_of}
+use Rattle.takeoff.specs.Refusals.{InOrder}
+use Rattle.takeoff.specs.Answers.{Holds, FrontCounted}
 use Rattle.takeoff.specs.Inner.{form_of, said, ordered, Admits, counted, stored_segments, stored_weights, stage_of, reader_of, Stepped, Stops, Halted, SoFar, Finished}
 use Rattle.takeoff.proofs.Sequence.{extend, in_order, same_form}
 use Rattle.takeoff.proofs.Growth.{encode_grown, header_grown, stage_grown, lawful_grown, segments_grown, counted_grown, weights_grown, segments_long, weights_long}
@@ -26,16 +24,6 @@ some_bytes b h e = omega (arith, ap length e)
 
 reader_same : (st : Reader) (at : ℕ) (s : Stage) (h : Header) → st.at ≡ at → st.stage ≡ s → st.header ≡ h → st ≡ record { at = at; stage = s; header = h }
 reader_same st at s h e f g = λ i. record { at = e i; stage = f i; header = g i }
-
-complete_at : (c : Contents) → stage_of c ≡ stage.Aiming → Complete c
-complete_at Empty e = absurd (let z : ◌≡◌ {A = ℕ} 0 1 = cc in omega arith)
-complete_at (Drawn n arcs) e = absurd (let z : ◌≡◌ {A = ℕ} 0 1 = cc in omega arith)
-complete_at (Aimed n arcs s t ws) e = tt
-
-incomplete_at : (c : Contents) → (stage_of c ≡ stage.Aiming → ⊥) → Complete c → ⊥
-incomplete_at Empty n c = c
-incomplete_at (Drawn n arcs) m c = c
-incomplete_at (Aimed n arcs s t ws) m c = m refl
 
 pub begins : (bytes : List ℕ) (ss : List Record) (ws : List Weight) (st : Reader) → st ≡ reader_of Empty → SoFar bytes bytes st ss ss ws ws
 begins bytes ss ws st e = record {
@@ -139,35 +127,3 @@ module _ (bytes rest : List ℕ) (st : Reader) (ss ss' : List Record) (ws ws' : 
         segments_long = ap length halt.segments_kept ∙ f.segments_long;
         weights_long = ap length halt.weights_kept ∙ f.weights_long;
       }
-
-  -- at the end of the file
-  finished : (o : Result Header Fault) → Ends (length ss) (length ws) bytes f.contents o → Finished bytes o ss ss' ws ws'
-  finished o e = record {
-    contents = f.contents;
-    answered = record { lawful = f.lawful; room = f.room; ends = e };
-    segments_held = f.segments_held;
-    segments_counted = f.segments_counted;
-    weights_held = f.weights_held;
-    segments_long = f.segments_long;
-    weights_long = f.weights_long;
-  }
-
-  pub finishes : (o : Result Header Fault) → length rest < 1 →
-      MatchResult o (λ h. (st.stage ≡ stage.Aiming) × (h ≡ st.header)) (λ g. (g ≡ fault.OutOfOrder st.at) × (st.stage ≡ stage.Aiming → ⊥)) → Finished bytes o ss ss' ws ws'
-  finishes (Ok h) none e =
-      let c = f.contents in
-      let nil : rest ≡ [] = nil_from_length rest (omega arith) in
-      finished (Ok h) (
-        complete_at c (sym (ap (λ (r : Reader). r.stage) f.reader) ∙ e.0),
-        f.splits ∙ ap (λ (b : List ℕ). encode c ++ b) nil ∙ append-nil (encode c),
-        e.1 ∙ ap (λ (r : Reader). r.header) f.reader,
-      )
-  finishes (Err g) none e =
-      let c = f.contents in
-      let nil : rest ≡ [] = nil_from_length rest (omega arith) in
-      finished (Err g) (
-        rest,
-        f.splits,
-        ap place e.0 ∙ ap (λ (r : Reader). At r.at) f.reader,
-        EndsEarly (ap number e.0) nil (incomplete_at c (λ s. e.1 (ap (λ (r : Reader). r.stage) f.reader ∙ s))),
-      )

@@ -1,10 +1,9 @@
 -- Reading choices four bytes at a time. Assumes nothing.
-use Rattle.std.proofs.Common.{◌≡◌, ℕ, zero, suc, ◌+◌, ◌*◌, ◌/◌, ◌<◌, List, [], ◌∷◌, ◌++◌, map, length, get_or, take, drop, set, sym, ap, ◌∙◌, subst, arith, length-set, length-drop}
+use Rattle.std.proofs.Common.{◌≡◌, ℕ, zero, suc, ◌*◌, ◌/◌, List, ◌++◌, map, length, take, drop, sym, ap, ◌∙◌, arith, length-drop}
 use Rattle.std.specs.List.{flat_map, AllByRecursion}
 use Rattle.std.specs.Simd.{first_chunks}
-use Rattle.std.proofs.lemmas.List.{map_push, nil_from_length, take-append-drop, take_all, take_more, take_more_set}
+use Rattle.std.proofs.lemmas.List.{nil_from_length, take-append-drop, take_all}
 use Rattle.std.proofs.lemmas.List.Folds.{flat_map-map}
-use Rattle.std.proofs.ByRecursion.{All-push}
 use Rattle.network.specs.declared.size.Size.{Size}
 use Rattle.takeoff.specs.Format.{size_bytes, Short}
 
@@ -13,19 +12,6 @@ pub record Spelt (chunks : List (List ℕ)) (sizes : List Size) (count : ℕ) : 
   pub said : map size_bytes (take count sizes) ≡ take count chunks
   pub short : AllByRecursion Short (take count sizes)
   pub room : length sizes ≡ 8
-
-pub spelt_more : (chunks : List (List ℕ)) (sizes : List Size) (count : ℕ) (z : Size) → Spelt chunks sizes count → count < length chunks → count < 8 → size_bytes z ≡ get_or chunks count [] → Short z →
-    Spelt chunks (set sizes count z) (count + 1)
-spelt_more chunks sizes count z i here free spells short =
-    let in_place : count < length sizes = omega (arith, i.room) in
-    let more = take_more_set sizes count z in_place in
-    record {
-      said =
-          ap (map size_bytes) more ∙ map_push size_bytes (take count sizes) z ∙ ap (λ (x : List ℕ). map size_bytes (take count sizes) ++ x ∷ []) spells
-          ∙ ap (λ (xs : List (List ℕ)). xs ++ get_or chunks count [] ∷ []) i.said ∙ sym (take_more chunks count [] here);
-      short = subst (λ (s : List Size). AllByRecursion Short s) (sym more) (All-push Short (take count sizes) z i.short short);
-      room = length-set sizes count z ∙ i.room;
-    }
 
 -- the chunks side by side are the bytes, where four divides their number
 chunks_joined : (k : ℕ) (bytes : List ℕ) → length bytes ≡ 4 * k → flat_map (λ (b : List ℕ). b) (first_chunks 4 k bytes) ≡ bytes

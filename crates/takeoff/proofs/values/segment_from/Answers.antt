@@ -1,11 +1,6 @@
-use Rattle.std.proofs.Common.{◌≡◌, ◌<◌, length, refl, arith, subst}
-use Rattle.takeoff.proofs.Spelling.{Spelt, spelt_more, spelt_all}
+use Rattle.std.proofs.Common.{◌≡◌, length, refl, arith, subst}
+use Rattle.takeoff.proofs.Spelling.{Spelt, spelt_all}
 use Rattle.takeoff.proofs.values.segment_from.Goals as goal
-
-pub loop-j-preserved : goal.loop-j-preserved
-loop-j-preserved c =
-    let free : c.loop-j.j < 8 = omega (arith, c.requires.1, c.requires.2, c.as_chunks.ensures.front_len) in
-    spelt_more c.as_chunks.result.0.now c.loop-j.sizes c.loop-j.j c.size_from.result c.loop-j.invariant c.loop-j-test.true free c.size_from.ensures.0 c.size_from.ensures.1
 
 pub returns : goal.returns
 returns c =

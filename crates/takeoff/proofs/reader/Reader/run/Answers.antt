@@ -1,19 +1,9 @@
-use Rattle.std.proofs.Common.{◌≡◌, ◌<◌, ◌≤◌, length, Err, Result, sym, subst, arith, rules}
+use Rattle.std.proofs.Common.{◌≡◌, ◌≤◌, length, Err, Result, sym, subst, arith, rules}
 use Rattle.network.specs.declared.fault.Fault.{Fault}
 use Rattle.takeoff.specs.declared.header.Header.{Header}
 use Rattle.takeoff.specs.Inner.{Finished}
-use Rattle.takeoff.proofs.Reading.{within, shorter, again, halts, finishes}
+use Rattle.takeoff.proofs.Reading.{again, halts}
 use Rattle.takeoff.proofs.reader.Reader.run.Goals as goal
-
-pub step-requires : goal.step-requires
-step-requires c =
-    let long : length c.args.bytes.now < 18446744073709551616 = search rules in
-    omega (arith, within c.args.bytes.now c.loop-rest.rest.now c.loop-rest.self c.args.segments.now c.loop-rest.segments c.args.weights.now c.loop-rest.weights c.loop-rest.invariant)
-
-pub loop-rest-smaller : goal.loop-rest-smaller
-loop-rest-smaller c =
-    shorter c.args.bytes.now c.loop-rest.rest.now c.loop-rest.self c.args.segments.now c.loop-rest.segments c.args.weights.now c.loop-rest.weights c.loop-rest.invariant
-    c.in_ok-rest.rest.now c.step.new.self c.step.new.segments c.step.new.weights c.in_ok-rest.ensures
 
 pub loop-rest-preserved : goal.loop-rest-preserved
 loop-rest-preserved c =
@@ -27,9 +17,3 @@ returns-in_err-rest c =
     subst (λ (o : Result Header Fault). Finished c.args.bytes.now o c.args.segments.now c.step.new.segments c.args.weights.now c.step.new.weights) (sym stopped)
     (halts c.args.bytes.now c.loop-rest.rest.now c.loop-rest.self c.args.segments.now c.loop-rest.segments c.args.weights.now c.loop-rest.weights c.loop-rest.invariant
     c.in_err-rest.field-0.0 c.step.new.segments c.step.new.weights some c.in_err-rest.ensures)
-
-pub returns : goal.returns
-returns c =
-    let none : length c.loop-rest.rest.now < 1 = grind (arith, c.loop-rest-test.ensures) in
-    finishes c.args.bytes.now c.loop-rest.rest.now c.loop-rest.self c.args.segments.now c.loop-rest.segments c.args.weights.now c.loop-rest.weights c.loop-rest.invariant
-    c.end.result none c.end.ensures
