@@ -1,4 +1,3 @@
-pub mod Pairs
 pub mod Routes
 pub mod Texts
 pub mod ReportTexts

@@ -1,14 +1,15 @@
 -- How the lines of a report are written. Assumes nothing.
-use Rattle.std.specs.Prelude.{ℕ, List, [], ◌∷◌, ◌++◌, Some, None, codes, decimal, Option}
+use Rattle.std.specs.Prelude.{ℕ, List, ◌++◌, Some, None, codes, decimal, Option}
 use Rattle.std.specs.Fmt.{signed_decimal}
+use Rattle.std.specs.List.{flat_map}
 use Rattle.network.specs.declared.step.Step.{Step}
+use Rattle.network.specs.Texts.{cost_text, ray_text, step_text as written}
 use Rattle.polygons.specs.declared.cheapest.Cheapest.{Cheapest}
 use Rattle.printout.specs.declared.corner_line.CornerLine.{CornerLine}
 use Rattle.printout.specs.declared.entry.Entry.{Entry}
 use Rattle.printout.specs.declared.heading.Heading.{Heading}
 use Rattle.printout.specs.declared.route_line.RouteLine.{RouteLine}
 use Rattle.printout.specs.declared.weight_line.WeightLine.{WeightLine}
-use Rattle.printout.specs.Pairs.{pair_text}
 use Rattle.printout.specs.Routes.{route_of}
 
 abbrev pub heading_text : Heading → List ℕ
@@ -19,16 +20,15 @@ heading_text h =
 -- the number of a corner and its cost, and the rays of its cone
 abbrev pub corner_text : CornerLine → List ℕ
 corner_text c =
-    codes "corner " ++ (decimal c.number ++ (codes " " ++ (pair_text c.cost.price c.cost.pressure
-    ++ (codes " cone " ++ (pair_text c.first.a c.first.b ++ (codes " " ++ pair_text c.second.a c.second.b))))))
+    codes "corner " ++ (decimal c.number ++ (codes " " ++ (cost_text c.cost
+    ++ (codes " cone " ++ (ray_text c.first ++ (codes " " ++ ray_text c.second))))))
 
 -- a step as segment and choice with a point between them, behind a blank
 abbrev pub step_text : Step → List ℕ
-step_text x = codes " " ++ (decimal x.segment ++ (codes "." ++ decimal x.choice))
+step_text x = codes " " ++ written x
 
 abbrev pub steps_text : List Step → List ℕ
-steps_text [] = []
-steps_text (x ∷ xs) = step_text x ++ steps_text xs
+steps_text = flat_map step_text
 
 -- the number of a corner, and the steps of its route
 abbrev pub route_text : RouteLine → List ℕ
@@ -46,12 +46,10 @@ weight_text l = codes "weight " ++ (signed_decimal l.weight.a ++ (codes " " ++ (
 abbrev pub entry_text : Entry → List ℕ
 entry_text e = corner_text e.corner ++ (codes "\n" ++ route_text e.route)
 
--- those of each corner
+-- those of each corner, with a newline at the end
 abbrev pub entries_text : List Entry → List ℕ
-entries_text [] = []
-entries_text (e ∷ es) = (entry_text e ++ codes "\n") ++ entries_text es
+entries_text = flat_map (λ e. entry_text e ++ codes "\n")
 
--- the line of each weight
+-- the line of each weight, with a newline at the end
 abbrev pub lines_text : List WeightLine → List ℕ
-lines_text [] = []
-lines_text (l ∷ ls) = (weight_text l ++ codes "\n") ++ lines_text ls
+lines_text = flat_map (λ l. weight_text l ++ codes "\n")

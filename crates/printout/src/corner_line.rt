@@ -2,13 +2,12 @@
 ghost use Rattle.std.specs.Prelude.{Some};
 ghost use Rattle.printout.specs.Texts.{corner_text};
 
-use crate::pair::Pair;
 use network::{Cost, Ray};
 use std::fmt;
 use std::fmt::{Display, Formatter};
 
 /// A corner of the target: its number, its cost, and the two rays of its cone.
-#[derive(Clone, Copy)]
+#[derive(Clone, Copy, Debug, Default, PartialEq, Eq)]
 pub struct CornerLine {
     pub number: usize,
     pub cost: Cost,
@@ -22,18 +21,9 @@ impl Display for CornerLine {
     /// The number of the corner, its price and pressure, and both rays.
     fn fmt<W: fmt::Write>(&self, f: &mut Formatter<W>) -> fmt::Result {
         let number = self.number;
-        let cost = Pair {
-            first: self.cost.price,
-            second: self.cost.pressure,
-        };
-        let arriving = Pair {
-            first: self.first.a,
-            second: self.first.b,
-        };
-        let leaving = Pair {
-            first: self.second.a,
-            second: self.second.b,
-        };
-        write!(f, "corner {number} {cost} cone {arriving} {leaving}")
+        let cost = self.cost;
+        let first = self.first;
+        let second = self.second;
+        write!(f, "corner {number} {cost} cone {first} {second}")
     }
 }

@@ -2,20 +2,16 @@
 #![tactic(auto)]
 
 mod corner_line;
+mod each;
 mod entry;
 mod heading;
-mod pair;
-mod parts;
-mod report_text;
 mod route_line;
-mod route_text;
 mod summary;
 mod weight_line;
 
 pub use corner_line::CornerLine;
 pub use entry::Entry;
 pub use heading::Heading;
-pub use pair::Pair;
 pub use route_line::RouteLine;
 pub use summary::Report;
 pub use weight_line::WeightLine;
