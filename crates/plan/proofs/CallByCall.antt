@@ -8,7 +8,7 @@ use Rattle.plan.specs.declared.state.State.{State}
 use Rattle.plan.specs.Calls.{Right, AllRight, BeginningsRight, CallsAnswer}
 use Rattle.plan.specs.Changes.{Carried}
 use Rattle.plan.specs.Progress.{Progress, Answer, after_call, after_calls}
-use Rattle.plan.specs.Standing.{progress, Stands}
+use Rattle.plan.specs.Standing.{progress}
 
 -- a call more after a list of calls
 after_more : (p : Progress) (calls : List Call) (answers : List Answer) (c : Call) (a : Answer) → length calls ≡ length answers
@@ -31,21 +31,19 @@ pub record Answered (N : Network) (σ : State) (calls : List Call) (old : List S
   pub long : length answers ≡ length before
   pub rest : drop i answers ≡ drop i before
   pub moved : progress τ ≡ after_calls (progress σ) (take i calls) (take i answers)
-  pub right : Stands N σ → AllRight N (progress σ) (take i calls) old (take i answers) steps
-  pub stands : Stands N σ → Stands N τ
+  pub right : AllRight N (progress σ) (take i calls) old (take i answers) steps
 
 pub none_answered : (N : Network) (σ : State) (calls : List Call) (old : List Step) (before : List Answer) → Answered N σ calls old before before old σ 0
-none_answered N σ calls old before = record { long = refl; rest = refl; moved = refl; right = λ _. (refl, refl); stands = λ h. h }
+none_answered N σ calls old before = record { long = refl; rest = refl; moved = refl; right = (refl, refl) }
 
 module _ (N : Network) (σ : State) (calls : List Call) (old : List Step) (before : List Answer) where
   pub one_more : (answers : List Answer) (steps : List Step) (τ : State) (i : ℕ) (d : Call) (a : Answer) (new : List Step) (υ : State)
       → i < length calls → length calls ≤ length before → Answered N σ calls old before answers steps τ i
       → progress υ ≡ after_call (progress τ) (get_or calls i d) a
       → (M : Network) → M ≡ N
-      → (Stands M τ → Right M (progress τ) (get_or calls i d) steps a new)
-      → (Stands M τ → Stands M υ)
+      → Right M (progress τ) (get_or calls i d) steps a new
       → Answered N σ calls old before (set answers i a) new υ (i + 1)
-  one_more answers steps τ i d a new υ here room h moved M same right stands =
+  one_more answers steps τ i d a new υ here room h moved M same right =
       let inside : i < length answers = omega (arith, h.long) in
       let c = get_or calls i d in
       let calls_more : take (i + 1) calls ≡ take i calls ++ c ∷ [] = take_more calls i d here in
@@ -57,13 +55,12 @@ module _ (N : Network) (σ : State) (calls : List Call) (old : List Step) (befor
         moved =
             moved ∙ ap (λ (p : Progress). after_call p c a) h.moved ∙ sym (after_more (progress σ) (take i calls) (take i answers) c a as_many)
             ∙ (λ j. after_calls (progress σ) (sym calls_more j) (sym answers_more j));
-        right = λ begun.
+        right =
             subst (λ (cs : List Call). AllRight N (progress σ) cs old (take (i + 1) (set answers i a)) new) (sym calls_more)
             (subst (λ (xs : List Answer). AllRight N (progress σ) (take i calls ++ c ∷ []) old xs new) (sym answers_more)
-            (right_more N (progress σ) (take i calls) old (take i answers) steps c a new (h.right begun)
+            (right_more N (progress σ) (take i calls) old (take i answers) steps c a new h.right
             (subst (λ (p : Progress). Right N p c steps a new) h.moved
-            (subst (λ (K : Network). Stands K τ → Right K (progress τ) c steps a new) same right (h.stands begun)))));
-        stands = λ begun. subst (λ (K : Network). Stands K τ → Stands K υ) same stands (h.stands begun);
+            (subst (λ (K : Network). Right K (progress τ) c steps a new) same right))));
       }
 
   pub all_carried : (answers : List Answer) (steps : List Step) (τ : State) (i : ℕ) → i ≡ length calls → Answered N σ calls old before answers steps τ i → Carried σ calls old before (Ok tt) answers steps τ
@@ -73,11 +70,11 @@ module _ (N : Network) (σ : State) (calls : List Call) (old : List Step) (befor
     subst (λ n. drop n answers ≡ drop n before) all h.rest,
   )
 
-  pub all_answered : (answers : List Answer) (steps : List Step) (τ : State) (i : ℕ) → i ≡ length calls → length calls ≤ length before → Answered N σ calls old before answers steps τ i → Stands N σ → CallsAnswer N (progress σ) calls old before (Ok tt) answers steps
-  all_answered answers steps τ i all room h begun = (
+  pub all_answered : (answers : List Answer) (steps : List Step) (τ : State) (i : ℕ) → i ≡ length calls → length calls ≤ length before → Answered N σ calls old before answers steps τ i → CallsAnswer N (progress σ) calls old before (Ok tt) answers steps
+  all_answered answers steps τ i all room h = (
     room,
     subst (λ n. AllRight N (progress σ) calls old (take n answers) steps) all
-        (subst (λ (cs : List Call). AllRight N (progress σ) cs old (take i answers) steps) (take_all i calls (omega arith)) (h.right begun)),
+        (subst (λ (cs : List Call). AllRight N (progress σ) cs old (take i answers) steps) (take_all i calls (omega arith)) h.right),
     subst (λ n. drop n answers ≡ drop n before) all h.rest,
   )
 

@@ -1,3 +1,4 @@
+pub mod PassedOn
 pub mod Standing
 pub mod NextNode
 pub mod Questions

@@ -1,5 +1,5 @@
--- What a plan that stands answers of a settled node. Assumes nothing.
-use Rattle.std.proofs.Common.{ℕ, ◌<◌, List, [], length, sym, refl, ap, ◌∙◌, subst, arith}
+-- What a plan answers of a settled node. Assumes nothing.
+use Rattle.std.proofs.Common.{◌≡◌, ℕ, ◌<◌, List, [], length, get_or, Some, sym, refl, ◌∙◌, subst, arith}
 use Rattle.std.proofs.lemmas.List.{get_or-map}
 use Rattle.network.specs.declared.fault.Fault.{Fault}
 use Rattle.network.specs.declared.fault.Fault.TheVariants as fault
@@ -7,15 +7,13 @@ use Rattle.network.specs.declared.way.Ray.{Ray}
 use Rattle.network.specs.declared.weight.Weight.{Weight}
 use Rattle.network.specs.Costs.{LawfulWeight}
 use Rattle.network.specs.Networks.{Network, Ruled}
-use Rattle.network.specs.Routes.{Route}
-use Rattle.algebra.specs.Values.{IsJoin}
 use Rattle.geometry.specs.Plane.{Pt}
 use Rattle.geometry.specs.Support.{never}
 use Rattle.polygons.specs.declared.cheapest.Cheapest.{Cheapest}
 use Rattle.polygons.specs.declared.polygon.Polygon.{Polygon}
 use Rattle.polygons.specs.Cheapest.{pair, CheapestAt}
 use Rattle.polygons.specs.Corners.{corner_list}
-use Rattle.polygons.specs.Fits.{hulls, costs}
+use Rattle.polygons.specs.Fits.{costs}
 use Rattle.polygons.specs.Rays.{Cone}
 use Rattle.corners.specs.CornerLists.{CornersOf}
 use Rattle.corners.proofs.LeastOfCorners.{cheapest_least, attains_least, least_attains, runs_hold}
@@ -40,43 +38,29 @@ refused_as N p v to from more f (NoCorner is a b c) = NoCorner is a (to b) (reco
   so = more c.start c.list c.so;
 })
 
-module _ (N : Network) (ruled : Ruled N) (σ : State) (v : ℕ) {Lawful : Type 0} (p : Polygon) (held : Held N σ v Lawful p) (stands : Stands N σ) where
-  there : v < length σ.lists
-  there = omega (arith, σ.room, ruled.few, held.inside)
-
-  -- the polygon is the value of the node
-  pub value : IsJoin hulls N (Route N held.start v) (costs p)
-  value L exact =
-      ap costs (held.is p) ∙ sym (get_or-map costs σ.lists v p never there)
-      ∙ stands.values held.start held.is_started v held.lower L exact
-
-  pub corners : CornersOf N held.start v (corner_list p)
-  corners =
-      subst (CornersOf N held.start v) (get_or-map corner_list σ.lists v p [] there ∙ sym (ap corner_list (held.is p)))
-      (stands.corners held.start held.is_started v held.lower)
-
-  pub settled : (So : ℕ → List Pt → Type 0) → So held.start (corner_list p) → Settled N (progress σ) v So
+module _ (N : Network) (ruled : Ruled N) (p : Progress) (v : ℕ) {Lawful : Type 0} (x : Polygon) (held : Held N p v Lawful x) where
+  pub settled : (So : ℕ → List Pt → Type 0) → So held.start (corner_list x) → Settled N p v So
   settled So so = record {
     start = held.start;
     is_started = held.is_started;
     lower = held.lower;
-    list = corner_list p;
-    corners = corners;
+    list = corner_list x;
+    corners = held.corners;
     so = so;
   }
 
-  pub cone_of : (k : ℕ) (rays : Ray × Ray) → Cone (corner_list p) k rays → ConeOf N held.start v (corner_list p) k rays
+  pub cone_of : (k : ℕ) (rays : Ray × Ray) → Cone (corner_list x) k rays → ConeOf N held.start v (corner_list x) k rays
   cone_of k rays cone = record {
     within = cone.within;
     first_arrives = cone.first_arrives;
     second_leaves = cone.second_leaves;
-    least_between = λ w b. attains_least N ruled held.start v (corner_list p) value k cone.within w (cone.cheapest_between (pair w) b);
-    between_where_least = λ w h. cone.between_where_cheapest (pair w) (least_attains N held.start v (corner_list p) corners k w h);
+    least_between = λ w b. attains_least N ruled held.start v (corner_list x) held.value k cone.within w (cone.cheapest_between (pair w) b);
+    between_where_least = λ w h. cone.between_where_cheapest (pair w) (least_attains N held.start v (corner_list x) held.corners k w h);
   }
 
-  pub cheapest_is : (w : Weight) → LawfulWeight w → (b : Cheapest) → CheapestAt p w b.least b.corner → CheapestIs N held.start v (corner_list p) w b
+  pub cheapest_is : (w : Weight) → LawfulWeight w → (b : Cheapest) → CheapestAt x w b.least b.corner → CheapestIs N held.start v (corner_list x) w b
   cheapest_is w lawful b h =
-      let least = cheapest_least N ruled held.start v (corner_list p) value w b.least b.corner h in
+      let least = cheapest_least N ruled held.start v (corner_list x) held.value w b.least b.corner h in
       record {
         lawful = lawful;
         least_of_routes = least;
@@ -85,5 +69,20 @@ module _ (N : Network) (ruled : Ruled N) (σ : State) (v : ℕ) {Lawful : Type 0
       }
 
   -- a corner is lacking
-  pub lacking : (Lacking : ℕ → List Pt → Type 0) (Weighed : Type 0) → Weighed → Lacking held.start (corner_list p) → Refused N (progress σ) v Weighed Lacking fault.NoCorner
+  pub lacking : (Lacking : ℕ → List Pt → Type 0) (Weighed : Type 0) → Weighed → Lacking held.start (corner_list x) → Refused N p v Weighed Lacking fault.NoCorner
   lacking Lacking Weighed weighed none = NoCorner refl held.inside weighed (settled Lacking none)
+
+-- the list of a settled node of a plan that stands is what a question asks for
+pub holds : (N : Network) (ruled : Ruled N) (σ : State) → Stands N σ → (v : ℕ) {Lawful : Type 0} → v < N.nodes → Lawful → (s : ℕ) → σ.start ≡ Some s → v < σ.settled
+    → (d : Polygon) → Held N (progress σ) v Lawful (get_or σ.lists v d)
+holds N ruled σ stands v inside lawful s is lower d =
+    let there : v < length σ.lists = omega (arith, σ.room, ruled.few, inside) in
+    record {
+      inside = inside;
+      lawful = lawful;
+      start = s;
+      is_started = is;
+      lower = lower;
+      value = λ L exact. sym (get_or-map costs σ.lists v d never there) ∙ stands.values s is v lower L exact;
+      corners = subst (CornersOf N s v) (get_or-map corner_list σ.lists v d [] there) (stands.corners s is v lower);
+    }

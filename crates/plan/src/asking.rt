@@ -13,8 +13,9 @@ impl<S: Source> Plan<S> {
     /// The polygon of a settled node, for a question whose weight, if it has one, is lawful or not. Refuses with 5 where
     /// there is no such node, with 8 where the weight is not lawful, with 20 where there is no start and with 22 where the
     /// node is not settled.
+    // The weight is tested between the node and the start, so what the test says is passed in.
     pub(crate) fn held(&self, v: usize, lawful: bool) -> Result<&Polygon, Fault>
-        ensures { MatchResult result (λ p. Held (S.Source.network self.now.source) self.now.state v (lawful ≡ true) p.now) (λ f. Refused (S.Source.network self.now.source) (progress self.now.state) v (lawful ≡ true) (λ _ _. ⊥) f) }
+        ensures { MatchResult result (λ x. Held (S.Source.network self.now.source) (progress self.now.state) v (lawful ≡ true) x.now) (λ f. Refused (S.Source.network self.now.source) (progress self.now.state) v (lawful ≡ true) (λ _ _. ⊥) f) }
     {
         if v >= self.source.nodes() {
             return Err(Fault::BadNode(0));
@@ -34,53 +35,40 @@ impl<S: Source> Plan<S> {
     /// The number of corners of node `v`: 0 where no route leads there. Refuses with 5 where there is no such node, with
     /// 20 where there is no start and with 22 where the node is not settled.
     pub fn count(&self, v: usize) -> Result<usize, Fault>
-        ensures { Stands (S.Source.network self.now.source) self.now.state → CountAnswer (S.Source.network self.now.source) (progress self.now.state) v result }
+        ensures answers { CountAnswer (S.Source.network self.now.source) (progress self.now.state) v result }
+
+        // Every plan stands. The type keeps that; callers learn it here.
+        ensures plan_stands { Stands (S.Source.network self.now.source) self.now.state }
     {
-        match self.held(v, true) {
-            Ok(list) => Ok(list.count()),
-            Err(fault) => Err(fault),
-        }
+        let _ = &self.state;
+        let list = self.held(v, true)?;
+        Ok(list.count())
     }
 
     /// The cost at corner `k` of node `v`, counted from 0. Refuses with 5, 20 and 22 as `count` does, and with 23 where
     /// there is no such corner.
     pub fn corner(&self, v: usize, k: usize) -> Result<Cost, Fault>
-        ensures { Stands (S.Source.network self.now.source) self.now.state → CornerAnswer (S.Source.network self.now.source) (progress self.now.state) v k result }
+        ensures { CornerAnswer (S.Source.network self.now.source) (progress self.now.state) v k result }
     {
-        match self.held(v, true) {
-            Ok(list) => match list.corner(k) {
-                Some(cost) => Ok(cost),
-                None => Err(Fault::NoCorner),
-            },
-            Err(fault) => Err(fault),
-        }
+        let list = self.held(v, true)?;
+        list.corner(k).ok_or(Fault::NoCorner)
     }
 
     /// The two rays between which the weights lie at which corner `k` of node `v` has the least cost. Refuses as `corner`
     /// does.
     pub fn cone(&self, v: usize, k: usize) -> Result<(Ray, Ray), Fault>
-        ensures { Stands (S.Source.network self.now.source) self.now.state → ConeAnswer (S.Source.network self.now.source) (progress self.now.state) v k result }
+        ensures { ConeAnswer (S.Source.network self.now.source) (progress self.now.state) v k result }
     {
-        match self.held(v, true) {
-            Ok(list) => match list.cone(k) {
-                Some(rays) => Ok(rays),
-                None => Err(Fault::NoCorner),
-            },
-            Err(fault) => Err(fault),
-        }
+        let list = self.held(v, true)?;
+        list.cone(k).ok_or(Fault::NoCorner)
     }
 
     /// The least cost of all routes to node `v` at a weight, and the lowest corner that has it. Refuses with 5, 20 and 22
     /// as `count` does, with 8 right after 5 where the weight is out of range, and last with 23 where there is no corner.
     pub fn cheapest(&self, v: usize, weight: Weight) -> Result<Cheapest, Fault>
-        ensures { Stands (S.Source.network self.now.source) self.now.state → CheapestAnswer (S.Source.network self.now.source) (progress self.now.state) v weight result }
+        ensures { CheapestAnswer (S.Source.network self.now.source) (progress self.now.state) v weight result }
     {
-        match self.held(v, weight.in_range()) {
-            Ok(list) => match list.cheapest(&weight) {
-                Some(best) => Ok(best),
-                None => Err(Fault::NoCorner),
-            },
-            Err(fault) => Err(fault),
-        }
+        let list = self.held(v, weight.in_range())?;
+        list.cheapest(&weight).ok_or(Fault::NoCorner)
     }
 }

@@ -3,7 +3,7 @@ ghost use Rattle.std.specs.Prelude.{◌≡◌};
 ghost use Rattle.plan.specs.Calls.{Right, CallsAnswer};
 ghost use Rattle.plan.specs.Changes.{Carried};
 ghost use Rattle.plan.specs.Progress.{after_call};
-ghost use Rattle.plan.specs.Standing.{progress, Stands};
+ghost use Rattle.plan.specs.Standing.{progress};
 
 use crate::call::{Call, Reply};
 use crate::plan::Plan;
@@ -16,38 +16,20 @@ impl<S: Source> Plan<S> {
     pub fn call(&mut self, call: Call, steps: &mut [Step]) -> Result<Reply, Fault>
         ensures keeps_its_source { self.new.source ≡ self.old.source }
         ensures moves_on { progress self.new.state ≡ after_call (progress self.old.state) call result }
-        ensures answers { Stands (S.Source.network self.old.source) self.old.state → Right (S.Source.network self.old.source) (progress self.old.state) call steps.old result steps.new }
-        ensures stands { Stands (S.Source.network self.old.source) self.old.state → Stands (S.Source.network self.old.source) self.new.state }
+        ensures answers { Right (S.Source.network self.old.source) (progress self.old.state) call steps.old result steps.new }
     {
         match call {
-            Call::Start(s) => match self.start(s) {
-                Ok(()) => Ok(Reply::Done),
-                Err(fault) => Err(fault),
-            },
-            Call::Settle => match self.settle() {
-                Ok(()) => Ok(Reply::Done),
-                Err(fault) => Err(fault),
-            },
-            Call::Count(v) => match self.count(v) {
-                Ok(corners) => Ok(Reply::Count(corners)),
-                Err(fault) => Err(fault),
-            },
-            Call::Corner(v, k) => match self.corner(v, k) {
-                Ok(cost) => Ok(Reply::Corner(cost)),
-                Err(fault) => Err(fault),
-            },
-            Call::Cone(v, k) => match self.cone(v, k) {
-                Ok((first, second)) => Ok(Reply::Cone(first, second)),
-                Err(fault) => Err(fault),
-            },
-            Call::Cheapest(v, weight) => match self.cheapest(v, weight) {
-                Ok(best) => Ok(Reply::Cheapest(best)),
-                Err(fault) => Err(fault),
-            },
-            Call::Route(v, k, from, long) => match self.route_part(v, k, from, long, steps) {
-                Ok(count) => Ok(Reply::Route(count)),
-                Err(fault) => Err(fault),
-            },
+            Call::Start(s) => self.start(s).map(|()| Reply::Done),
+            Call::Settle => self.settle().map(|()| Reply::Done),
+            Call::Count(v) => self.count(v).map(Reply::Count),
+            Call::Corner(v, k) => self.corner(v, k).map(Reply::Corner),
+            Call::Cone(v, k) => self
+                .cone(v, k)
+                .map(|(first, second)| Reply::Cone(first, second)),
+            Call::Cheapest(v, weight) => self.cheapest(v, weight).map(Reply::Cheapest),
+            Call::Route(v, k, from, long) => self
+                .route_part(v, k, from, long, steps)
+                .map(Reply::Route),
         }
     }
 
@@ -61,14 +43,13 @@ impl<S: Source> Plan<S> {
     ) -> Result<(), Fault>
         ensures keeps_its_source { self.new.source ≡ self.old.source }
         ensures moves_on { Carried self.old.state calls.now steps.old answers.old result answers.new steps.new self.new.state }
-        ensures answers { Stands (S.Source.network self.old.source) self.old.state → CallsAnswer (S.Source.network self.old.source) (progress self.old.state) calls.now steps.old answers.old result answers.new steps.new }
-        ensures stands { Stands (S.Source.network self.old.source) self.old.state → Stands (S.Source.network self.old.source) self.new.state }
+        ensures answers { CallsAnswer (S.Source.network self.old.source) (progress self.old.state) calls.now steps.old answers.old result answers.new steps.new }
     {
         if answers.len() < calls.len() {
             return Err(Fault::NoRoom(0));
         }
-        for i in 0..calls.len() {
-            answers[i] = self.call(calls[i], steps);
+        for (i, call) in calls.iter().enumerate() {
+            answers[i] = self.call(*call, steps);
         }
         Ok(())
     }

@@ -3,7 +3,6 @@ ghost use Rattle.std.specs.Prelude.{◌≡◌};
 ghost use Rattle.plan.specs.Calls.{CallsAnswer};
 ghost use Rattle.plan.specs.Changes.{CarriedFresh};
 ghost use Rattle.plan.specs.Progress.{fresh};
-ghost use Rattle.plan.specs.Standing.{Stands};
 
 use crate::call::{Call, Reply};
 use crate::plan::Plan;
@@ -12,7 +11,7 @@ use sources::Source;
 
 /// A plan, and what came of the list of calls that it was given.
 #[derive(Drop)]
-pub struct Carried<S> {
+pub struct Carried<S: Source> {
     pub plan: Plan<S>,
     pub outcome: Result<(), Fault>,
 }
@@ -30,7 +29,6 @@ pub fn carry_out<S: Source>(
     ensures holds_its_source { result.plan.source ≡ source }
     ensures moves_on { CarriedFresh calls.now answers.new result.outcome result.plan.state }
     ensures answers { CallsAnswer (S.Source.network source) fresh calls.now steps.old answers.old result.outcome answers.new steps.new }
-    ensures stands { Stands (S.Source.network source) result.plan.state }
 {
     let mut plan = Plan::new(source);
     let outcome = plan.calls(calls, answers, steps);

@@ -2,7 +2,7 @@
 ghost use Rattle.std.specs.Prelude.{◌≡◌, ◌≤◌, length, drop, MatchResult};
 ghost use Rattle.plan.specs.Answers.{RouteAnswer};
 ghost use Rattle.plan.specs.Calls.{PartRouted};
-ghost use Rattle.plan.specs.Standing.{progress, Stands};
+ghost use Rattle.plan.specs.Standing.{progress};
 
 use crate::plan::Plan;
 use network::{Fault, Step};
@@ -16,15 +16,11 @@ impl<S: Source> Plan<S> {
     /// does, and last with 10 where the place is shorter than the route; the place is then as it was.
     pub fn route(&self, v: usize, k: usize, place: &mut [Step]) -> Result<usize, Fault>
         ensures leaves_the_rest { MatchResult result (λ n. (n ≤ length place.old) × (drop n place.new ≡ drop n place.old)) (λ _. place.new ≡ place.old) }
-        ensures answers { Stands (S.Source.network self.now.source) self.now.state → RouteAnswer (S.Source.network self.now.source) (progress self.now.state) v k place.old result place.new }
+        ensures answers { RouteAnswer (S.Source.network self.now.source) (progress self.now.state) v k place.old result place.new }
     {
-        match self.corner(v, k) {
-            Ok(cost) => match self.state.start {
-                Some(start) => trace(&self.source, &self.state.lists, start, v, cost, place),
-                None => Err(Fault::NoStart),
-            },
-            Err(fault) => Err(fault),
-        }
+        let cost = self.corner(v, k)?;
+        let start = self.state.start.ok_or(Fault::NoStart)?;
+        trace(&self.source, &self.state.lists, start, v, cost, place)
     }
 
     /// The same for a part of the steps, which begins at a place and is so long; what lies past their end is no part.
@@ -36,7 +32,7 @@ impl<S: Source> Plan<S> {
         long: usize,
         steps: &mut [Step],
     ) -> Result<usize, Fault>
-        ensures { Stands (S.Source.network self.now.source) self.now.state → PartRouted (S.Source.network self.now.source) (progress self.now.state) v k from long steps.old result steps.new }
+        ensures { PartRouted (S.Source.network self.now.source) (progress self.now.state) v k from long steps.old result steps.new }
     {
         let begin = from.min(steps.len());
         let end = begin + long.min(steps.len() - begin);

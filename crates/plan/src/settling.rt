@@ -3,7 +3,7 @@ ghost use Rattle.std.specs.Prelude.{◌≡◌};
 ghost use Rattle.plan.specs.Answers.{SettleAnswer};
 ghost use Rattle.plan.specs.Changes.{Advanced};
 ghost use Rattle.plan.specs.Lists.{NextList};
-ghost use Rattle.plan.specs.Standing.{progress, Stands};
+ghost use Rattle.plan.specs.Standing.{progress};
 
 use crate::plan::Plan;
 use network::Fault;
@@ -14,11 +14,9 @@ use sources::Source;
 impl<S: Source> Plan<S> {
     /// The polygon of the lowest node that is not settled, as a run of the polygon kind makes it.
     fn next_list(&self) -> Result<Polygon, Fault>
-        ensures { NextList (S.Source.network self.now.source) self.now.state result }
+        ensures { NextList (S.Source.network self.now.source) (progress self.now.state) result }
     {
-        let Some(start) = self.state.start else {
-            return Err(Fault::NoStart);
-        };
+        let start = self.state.start.ok_or(Fault::NoStart)?;
         if self.state.settled >= self.source.nodes() {
             return Err(Fault::AllSettled);
         }
@@ -37,17 +35,12 @@ impl<S: Source> Plan<S> {
     pub fn settle(&mut self) -> Result<(), Fault>
         ensures keeps_its_source { self.new.source ≡ self.old.source }
         ensures replaces_one_list { Advanced self.old.state result self.new.state }
-        ensures answers { Stands (S.Source.network self.old.source) self.old.state → SettleAnswer (S.Source.network self.old.source) (progress self.old.state) result }
-        ensures stands { Stands (S.Source.network self.old.source) self.old.state → Stands (S.Source.network self.old.source) self.new.state }
+        ensures answers { SettleAnswer (S.Source.network self.old.source) (progress self.old.state) result }
     {
-        match self.next_list() {
-            Ok(list) => {
-                let v = self.state.settled;
-                self.state.lists[v] = list;
-                self.state.settled = v + 1;
-                Ok(())
-            }
-            Err(fault) => Err(fault),
-        }
+        let list = self.next_list()?;
+        let v = self.state.settled;
+        self.state.lists[v] = list;
+        self.state.settled = v + 1;
+        Ok(())
     }
 }

@@ -1,26 +1,26 @@
+use Rattle.std.proofs.Common.{sym, subst}
 use Rattle.corners.proofs.LeastOfCorners.{no_corner_no_route}
-use Rattle.polygons.specs.Corners.{corner_list}
-use Rattle.plan.proofs.Questions.{settled, value, cheapest_is, lacking, refused_as}
+use Rattle.plan.specs.Answers.{CheapestAnswer}
+use Rattle.plan.specs.Standing.{progress}
+use Rattle.plan.proofs.PassedOn.{passed_on, ok_or_fault}
+use Rattle.plan.proofs.Questions.{settled, cheapest_is, lacking, refused_as}
 use Rattle.plan.proofs.plan.Plan.cheapest.Goals as goal
 
-pub returns-in-Some : goal.returns-in-Some
-returns-in-Some g c = λ stands.
+pub returns-in_err-list : goal.returns-in_err-list
+returns-in_err-list g c =
+    let N = g.S.Source.network c.args.self.now.source in
+    let p = progress c.args.self.now.state in
+    passed_on (CheapestAnswer N p c.args.v c.args.weight) c.from_residual.result c.from_residual.ensures.1
+    (refused_as N p c.args.v c.in_range.ensures.0 c.in_range.ensures.1 (λ s list none. absurd none) c.in_err-list.field-0.0 c.in_err-list.ensures)
+
+pub returns : goal.returns
+returns g c =
     let N = g.S.Source.network c.args.self.now.source in
     let ruled = g.S.Source.ruled c.args.self.now.source in
-    let held = c.in-Ok.ensures in
+    let p = progress c.args.self.now.state in
+    let held = c.in_ok-list.ensures in
     let lawful = c.in_range.ensures.0 held.lawful in
-    settled N ruled c.args.self.now.state c.args.v c.in-Ok.list.now held stands _
-    (cheapest_is N ruled c.args.self.now.state c.args.v c.in-Ok.list.now held stands c.args.weight lawful c.in-Some.best c.in-Some.ensures)
-
-pub returns-in-None : goal.returns-in-None
-returns-in-None g c = λ stands.
-    let N = g.S.Source.network c.args.self.now.source in
-    let ruled = g.S.Source.ruled c.args.self.now.source in
-    let held = c.in-Ok.ensures in
-    let none = c.in-None.ensures in
-    lacking N ruled c.args.self.now.state c.args.v c.in-Ok.list.now held stands _ _ (c.in_range.ensures.0 held.lawful)
-    (none, no_corner_no_route N ruled held.start c.args.v (corner_list c.in-Ok.list.now) (value N ruled c.args.self.now.state c.args.v c.in-Ok.list.now held stands) c.args.weight none)
-
-pub returns-in-Err : goal.returns-in-Err
-returns-in-Err g c = λ stands.
-    refused_as (g.S.Source.network c.args.self.now.source) _ c.args.v c.in_range.ensures.0 c.in_range.ensures.1 (λ s list none. absurd none) c.in-Err.fault c.in-Err.ensures
+    subst (CheapestAnswer N p c.args.v c.args.weight) (sym c.ok_or.ensures.value)
+    (ok_or_fault (CheapestAnswer N p c.args.v c.args.weight) c.cheapest.result _ c.cheapest.ensures
+    (λ none. lacking N ruled p c.args.v _ held _ _ lawful (none, no_corner_no_route N ruled held.start c.args.v _ held.value c.args.weight none))
+    (λ best h. settled N ruled p c.args.v _ held _ (cheapest_is N ruled p c.args.v _ held c.args.weight lawful best h)))

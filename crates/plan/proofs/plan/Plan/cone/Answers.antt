@@ -1,19 +1,24 @@
-use Rattle.std.proofs.Common.{refl}
+use Rattle.std.proofs.Common.{sym, refl, subst}
+use Rattle.plan.specs.Answers.{ConeAnswer}
+use Rattle.plan.specs.Standing.{progress}
+use Rattle.plan.proofs.PassedOn.{passed_on, ok_or_fault}
 use Rattle.plan.proofs.Questions.{settled, cone_of, lacking, refused_as}
 use Rattle.plan.proofs.plan.Plan.cone.Goals as goal
 
-pub returns-in-Some : goal.returns-in-Some
-returns-in-Some g c = λ stands.
+pub returns-in_err-list : goal.returns-in_err-list
+returns-in_err-list g c =
+    let N = g.S.Source.network c.args.self.now.source in
+    let p = progress c.args.self.now.state in
+    passed_on (ConeAnswer N p c.args.v c.args.k) c.from_residual.result c.from_residual.ensures.1
+    (refused_as N p c.args.v (λ _. tt) (λ _. refl) (λ s list none. absurd none) c.in_err-list.field-0.0 c.in_err-list.ensures)
+
+pub returns : goal.returns
+returns g c =
     let N = g.S.Source.network c.args.self.now.source in
     let ruled = g.S.Source.ruled c.args.self.now.source in
-    let held = c.in-Ok.ensures in
-    settled N ruled c.args.self.now.state c.args.v c.in-Ok.list.now held stands _
-    (cone_of N ruled c.args.self.now.state c.args.v c.in-Ok.list.now held stands c.args.k c.in-Some.rays c.in-Some.ensures)
-
-pub returns-in-None : goal.returns-in-None
-returns-in-None g c = λ stands.
-    lacking (g.S.Source.network c.args.self.now.source) (g.S.Source.ruled c.args.self.now.source) c.args.self.now.state c.args.v c.in-Ok.list.now c.in-Ok.ensures stands _ _ tt c.in-None.ensures
-
-pub returns-in-Err : goal.returns-in-Err
-returns-in-Err g c = λ stands.
-    refused_as (g.S.Source.network c.args.self.now.source) _ c.args.v (λ _. tt) (λ _. refl) (λ s list none. absurd none) c.in-Err.fault c.in-Err.ensures
+    let p = progress c.args.self.now.state in
+    let held = c.in_ok-list.ensures in
+    subst (ConeAnswer N p c.args.v c.args.k) (sym c.ok_or.ensures.value)
+    (ok_or_fault (ConeAnswer N p c.args.v c.args.k) c.cone.result _ c.cone.ensures
+    (λ none. lacking N ruled p c.args.v _ held _ _ tt none)
+    (λ rays h. settled N ruled p c.args.v _ held _ (cone_of N ruled p c.args.v _ held c.args.k rays h)))

@@ -1,17 +1,25 @@
-use Rattle.std.proofs.Common.{refl, ap}
+use Rattle.std.proofs.Common.{sym, refl, ap, subst}
 use Rattle.corners.specs.CornerLists.{cost_at}
+use Rattle.plan.specs.Answers.{CornerAnswer}
+use Rattle.plan.specs.Standing.{progress}
+use Rattle.plan.proofs.PassedOn.{passed_on, ok_or_fault}
 use Rattle.plan.proofs.Questions.{settled, lacking, refused_as}
 use Rattle.plan.proofs.plan.Plan.corner.Goals as goal
 
-pub returns-in-Some : goal.returns-in-Some
-returns-in-Some g c = λ stands.
-    let here = c.in-Some.ensures in
-    settled (g.S.Source.network c.args.self.now.source) (g.S.Source.ruled c.args.self.now.source) c.args.self.now.state c.args.v c.in-Ok.list.now c.in-Ok.ensures stands _ (here.0, ap cost_at here.1)
+pub returns-in_err-list : goal.returns-in_err-list
+returns-in_err-list g c =
+    let N = g.S.Source.network c.args.self.now.source in
+    let p = progress c.args.self.now.state in
+    passed_on (CornerAnswer N p c.args.v c.args.k) c.from_residual.result c.from_residual.ensures.1
+    (refused_as N p c.args.v (λ _. tt) (λ _. refl) (λ s list none. absurd none) c.in_err-list.field-0.0 c.in_err-list.ensures)
 
-pub returns-in-None : goal.returns-in-None
-returns-in-None g c = λ stands.
-    lacking (g.S.Source.network c.args.self.now.source) (g.S.Source.ruled c.args.self.now.source) c.args.self.now.state c.args.v c.in-Ok.list.now c.in-Ok.ensures stands _ _ tt c.in-None.ensures
-
-pub returns-in-Err : goal.returns-in-Err
-returns-in-Err g c = λ stands.
-    refused_as (g.S.Source.network c.args.self.now.source) _ c.args.v (λ _. tt) (λ _. refl) (λ s list none. absurd none) c.in-Err.fault c.in-Err.ensures
+pub returns : goal.returns
+returns g c =
+    let N = g.S.Source.network c.args.self.now.source in
+    let ruled = g.S.Source.ruled c.args.self.now.source in
+    let p = progress c.args.self.now.state in
+    let held = c.in_ok-list.ensures in
+    subst (CornerAnswer N p c.args.v c.args.k) (sym c.ok_or.ensures.value)
+    (ok_or_fault (CornerAnswer N p c.args.v c.args.k) c.corner.result _ c.corner.ensures
+    (λ none. lacking N ruled p c.args.v _ held _ _ tt none)
+    (λ x h. settled N ruled p c.args.v _ held _ (h.0, ap cost_at h.1)))

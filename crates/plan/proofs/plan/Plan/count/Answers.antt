@@ -1,11 +1,17 @@
 use Rattle.std.proofs.Common.{refl}
+use Rattle.plan.specs.Answers.{CountAnswer}
+use Rattle.plan.specs.Standing.{progress}
+use Rattle.plan.proofs.PassedOn.{passed_on}
 use Rattle.plan.proofs.Questions.{settled, refused_as}
 use Rattle.plan.proofs.plan.Plan.count.Goals as goal
 
-pub returns-in-Ok : goal.returns-in-Ok
-returns-in-Ok g c = λ stands.
-    settled (g.S.Source.network c.args.self.now.source) (g.S.Source.ruled c.args.self.now.source) c.args.self.now.state c.args.v c.in-Ok.list.now c.in-Ok.ensures stands _ c.count.ensures
+pub returns-in_err-list-clause-answers : goal.returns-in_err-list-clause-answers
+returns-in_err-list-clause-answers g c =
+    let N = g.S.Source.network c.args.self.now.source in
+    let p = progress c.args.self.now.state in
+    passed_on (CountAnswer N p c.args.v) c.from_residual.result c.from_residual.ensures.1
+    (refused_as N p c.args.v (λ _. tt) (λ _. refl) (λ s list none. none) c.in_err-list.field-0.0 c.in_err-list.ensures)
 
-pub returns-in-Err : goal.returns-in-Err
-returns-in-Err g c = λ stands.
-    refused_as (g.S.Source.network c.args.self.now.source) _ c.args.v (λ _. tt) (λ _. refl) (λ s list none. none) c.in-Err.fault c.in-Err.ensures
+pub returns-clause-answers : goal.returns-clause-answers
+returns-clause-answers g c =
+    settled (g.S.Source.network c.args.self.now.source) (g.S.Source.ruled c.args.self.now.source) _ c.args.v c.in_ok-list.list.now c.in_ok-list.ensures _ c.count.ensures
