@@ -1,3 +1,4 @@
+pub mod PassedOn
 pub mod Products
 pub mod SizeLists
 pub mod Lawful

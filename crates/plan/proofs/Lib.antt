@@ -1,4 +1,3 @@
-pub mod PassedOn
 pub mod Standing
 pub mod NextNode
 pub mod Questions

@@ -1,5 +1,5 @@
 -- The joined letters of a segment, turn by turn. Assumes nothing.
-use Rattle.std.proofs.Common.{◌≡◌, ℕ, zero, suc, ◌+◌, ◌<◌, ◌≤◌, List, [], ◌∷◌, map, length, take, drop, sym, refl, ap, ◌∙◌, subst, arith, below_more, length-drop}
+use Rattle.std.proofs.Common.{◌≡◌, ℕ, ◌+◌, ◌<◌, ◌≤◌, List, map, length, take, sym, refl, ap, ◌∙◌, subst, arith, below_more}
 use Rattle.std.proofs.lemmas.List.{take_all}
 use Rattle.network.specs.declared.size.Size.{Size}
 use Rattle.network.specs.Choices.{choice}
@@ -8,16 +8,6 @@ use Rattle.algebra.specs.Semirings.{Algebra, Semiring}
 use Rattle.algebra.specs.Values.{joined, LettersFit}
 use Rattle.algebra.specs.Enumerated.{letters}
 use Rattle.algebra.proofs.Joins.{joined_turn}
-
--- z is the first of the choices that are left once i have gone
-pub next_choice : (zs : List Size) (i : ℕ) {z : Size} {left : List Size} → drop i zs ≡ z ∷ left → (i < length zs) × (choice zs i ≡ z) × (drop (i + 1) zs ≡ left)
-next_choice [] i {z = z} {left = left} h = absurd (omega (arith, length-drop {A = Size} i [], ap length h))
-next_choice (x ∷ xs) zero h = (omega arith, cc, cc)
-next_choice (x ∷ xs) (suc i) h = let r = next_choice xs i h in let n : suc i + 1 ≡ suc (i + 1) = omega arith in (omega (arith, r.0), r.1, ap (λ k. drop k (x ∷ xs)) n ∙ r.2)
-
--- all have gone
-pub nothing_left : (zs : List Size) (i : ℕ) → drop i zs ≡ [] → length zs ≤ i
-nothing_left zs i h = omega (arith, length-drop i zs, ap length h)
 
 -- the first k letters, joined
 abbrev pub first : (A : Algebra) → List Size → ℕ → A.Carrier

@@ -5,4 +5,4 @@ pub mod Searches
 pub mod Downs
 pub mod OneWay
 pub mod Descents
-pub mod Rows
+pub mod InOrder

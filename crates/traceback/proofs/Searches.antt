@@ -1,7 +1,7 @@
 -- What is known at each turn of the three searches, and when they end. Assumes nothing.
-use Rattle.std.proofs.Common.{◌≡◌, ℕ, zero, suc, ◌+◌, ◌<◌, ◌≤◌, false, List, [], ◌∷◌, length, get_or, Some, None, Decides, Option, sym, refl, ap, ◌∙◌, subst, ⊎_elim, arith, below_more}
-use mathlib.Core.Bool.{false≢true}
-use Rattle.std.proofs.lemmas.List.{get_or-map}
+use Rattle.std.proofs.Common.{◌≡◌, ℕ, zero, suc, ◌+◌, ◌<◌, ◌≤◌, ◌≢◌, List, [], ◌∷◌, get_or, Some, None, map, length, pos, MatchOption, Option, sym, refl, ap, ◌∙◌, subst, ⊎_elim, arith, below_more}
+use Rattle.std.proofs.lemmas.List.{get_or-map, length-map}
+use Rattle.std.specs.List.{AllWithin, HoldsAt}
 use Rattle.network.specs.declared.cost.Cost.{Cost}
 use Rattle.network.specs.declared.size.Size.{Size}
 use Rattle.network.specs.Choices.{choice}
@@ -17,17 +17,32 @@ use Rattle.traceback.specs.Searching.{Meets, Matched, Chooses, ChosenFrom, Stepp
 use Rattle.traceback.specs.Tracing.{Listed, list_of}
 use Rattle.traceback.specs.WorkingBack.{Serves, Takes}
 
--- the corners of a list, the cost of a choice, and what is left
-module _ (list : List Pt) (d p : Point) where
-  abbrev Misses : ℕ → Type 0
-  Misses j = plus (cost_at (nth list j)) d ≡ p → ⊥
+-- the cost of nothing, where a list of costs is read past its end
+nothing : Cost
+nothing = record { price = pos 0; pressure = pos 0; price_within = (omega arith, omega arith); pressure_within = (omega arith, omega arith) }
 
-  -- no corner before place k meets
-  abbrev pub Unmet : ℕ → Type 0
-  Unmet k = (j : ℕ) → j < k → Misses j
+-- the corners of a list and their costs, the cost of a choice, and what is left
+module _ (list : List Pt) (corners : List Cost) (same : map place corners ≡ list) (d p : Point) where
+  at_place : (i : ℕ) (c : Cost) → i < length corners → nth list i ≡ place (get_or corners i c)
+  at_place i c l = ap (λ (ps : List Pt). nth ps i) (sym same) ∙ get_or-map place corners i c (pos 0, pos 0) l
 
-  pub unmet_more : (k : ℕ) (c : Cost) → (k < length list) × (place c ≡ nth list k) → Decides false (plus (point c) d ≡ p) → Unmet k → Unmet (k + 1)
-  unmet_more k c (l, here) misses before = below_more Misses k before (λ e. false≢true (misses.1 (ap (λ z. plus (cost_at z) d) here ∙ e)))
+  as_long : length list ≡ length corners
+  as_long = ap length (sym same) ∙ simp length-map refl
+
+  -- the first cost that adds up is a corner that meets, and where none does, none meets
+  pub matched : (r : Option Cost)
+      → MatchOption r (AllWithin (λ q. plus (point q) d ≢ p) corners 0 (length corners))
+      (λ c. (plus (point c) d ≡ p) × (i : ℕ) × (i < length corners) × HoldsAt (λ q. q ≡ c) corners i × AllWithin (λ q. plus (point q) d ≢ p) corners 0 i)
+      → Matched list d p r
+  matched (Some c) (adds, i, l, here, lower) = record {
+    corner = record { place = i; within = omega (arith, as_long); here = at_place i c l ∙ ap place (here c) };
+    adds = adds;
+  }
+  matched None none = λ q meets.
+      let i = meets.corner.place in
+      let l : i < length corners = omega (arith, as_long, meets.corner.within) in
+      let is : point (get_or corners i nothing) ≡ q = ap cost_at (sym (at_place i nothing l) ∙ meets.corner.here) in
+      none i nothing (omega arith) l (ap (λ (x : Point). plus x d) is ∙ meets.adds)
 
 -- the corners of a list, the choices of a segment, and what is left
 module _ (list : List Pt) (sizes : List Size) (p : Point) where
@@ -40,6 +55,15 @@ module _ (list : List Pt) (sizes : List Size) (p : Point) where
 
   pub unchosen_more : (k : ℕ) (z : Size) → z ≡ choice sizes k → Matched list (size_cost z) p None → Unchosen k → Unchosen (k + 1)
   unchosen_more k z is none before = below_more Fails k before (subst (λ y. Matched list (size_cost y) p None) is none)
+
+  -- choice k, whose size is z, is the lowest that serves
+  pub chosen : (k : ℕ) (q : Point) {n : ℕ} → n ≡ k → k < length sizes → (z : Size) → z ≡ choice sizes k → Meets list (size_cost z) p q → Unchosen k → Chooses list sizes p n q
+  chosen k q {n = n} same l z is meets before =
+      subst (λ i. Chooses list sizes p i q) (sym same)
+      (record { within = l; meets = subst (λ (y : Size). Meets list (size_cost y) p q) is meets; lowest = before })
+
+  pub none_chosen : (k : ℕ) → length sizes ≤ k → Unchosen k → ChosenFrom list sizes p None
+  none_chosen k all before j l = before j (omega arith)
 
 -- a number beyond the list is no segment's
 present : (xs : List (Option Arc)) (e : ℕ) (a : Arc) → get_or xs e None ≡ Some a → e < length xs

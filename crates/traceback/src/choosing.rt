@@ -9,7 +9,7 @@ use network::{Cost, Segment};
 use polygons::Polygon;
 
 /// A choice of a segment by its number, and the corner of the tail from which it leads to what is left.
-#[derive(Clone, Copy)]
+#[derive(Clone, Copy, Debug, PartialEq, Eq)]
 pub(crate) struct Chosen {
     pub choice: usize,
     pub corner: Cost,
@@ -19,11 +19,9 @@ pub(crate) struct Chosen {
 pub(crate) fn lowest_choice(list: &Polygon, segment: &Segment, left: &Cost) -> Option<Chosen>
     ensures { ChosenFrom (corner_list list.now) (choices segment.now.listed) (point left.now) result }
 {
-    for k in 0..segment.listed.count {
-        if let Some(choice) = segment.choice(k) {
-            if let Some(corner) = corner_before(list, &choice, left) {
-                return Some(Chosen { choice: k, corner });
-            }
+    for (k, choice) in segment.choices().enumerate() {
+        if let Some(corner) = corner_before(list, &choice, left) {
+            return Some(Chosen { choice: k, corner });
         }
     }
     None

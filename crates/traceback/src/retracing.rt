@@ -3,13 +3,13 @@ ghost use Rattle.std.specs.Prelude.{◌<◌};
 ghost use Rattle.network.specs.Costs.{point};
 ghost use Rattle.traceback.specs.Searching.{Retraced};
 
-use crate::matching::same;
 use crate::stepping::step_back;
 use network::{Cost, Step};
 use polygons::Polygon;
 use sources::Source;
 
 /// The first `count` of `steps`, in the order in which they were taken back: the last step of the route is first.
+// As many places as a route can have steps, and how many are used: no call is to fail for want of memory.
 #[derive(Clone, Copy)]
 pub(crate) struct Trail {
     pub count: usize,
@@ -28,31 +28,18 @@ pub(crate) fn retrace<S: Source>(
     requires { v < 128 }
     ensures { Retraced (S.Source.network source.now) start lists.now v (point corner) result }
 {
-    let mut steps = [Step {
-        segment: 0,
-        choice: 0,
-    }; 128];
+    let mut steps = [Step::default(); 128];
     let mut count = 0;
     let mut node = v;
     let mut left = corner;
     while node != start {
-        match step_back(source, lists, node, &left) {
-            Some(back) => {
-                steps[count] = back.step;
-                count += 1;
-                node = back.tail;
-                left = back.corner;
-            }
-            None => return None,
-        }
+        let back = step_back(source, lists, node, &left)?;
+        steps[count] = back.step;
+        count += 1;
+        node = back.tail;
+        left = back.corner;
     }
-    if same(
-        &left,
-        &Cost {
-            price: 0,
-            pressure: 0,
-        },
-    ) {
+    if left == Cost::default() {
         Some(Trail { count, steps })
     } else {
         None

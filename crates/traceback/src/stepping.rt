@@ -8,7 +8,7 @@ use polygons::Polygon;
 use sources::Source;
 
 /// A step taken back, the node that it leads from, and what is left there.
-#[derive(Clone, Copy)]
+#[derive(Clone, Copy, Debug, PartialEq, Eq)]
 pub(crate) struct Stepped {
     pub step: Step,
     pub tail: usize,

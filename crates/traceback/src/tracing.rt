@@ -13,9 +13,9 @@ fn lay(trail: &Trail, place: &mut [Step])
     requires { (trail.now.count ≤ 128) × (trail.now.count ≤ length place.old) }
     ensures { place.new ≡ reverse (take trail.now.count trail.now.steps) ++ drop trail.now.count place.old }
 {
-    for i in 0..trail.count {
-        place[i] = trail.steps[trail.count - 1 - i];
-    }
+    let front = &mut place[..trail.count];
+    front.copy_from_slice(&trail.steps[..trail.count]);
+    front.reverse();
 }
 
 /// Writes the route that working back through the corner lists finds from `corner` at node `v` to the start, in order from
@@ -36,14 +36,10 @@ pub fn trace<S: Source>(
     if v >= source.nodes() {
         return Err(Fault::BadNode(0));
     }
-    match retrace(source, lists, start, v, corner) {
-        Some(trail) => {
-            if place.len() < trail.count {
-                return Err(Fault::NoRoom(0));
-            }
-            lay(&trail, place);
-            Ok(trail.count)
-        }
-        None => Err(Fault::NoCorner),
+    let trail = retrace(source, lists, start, v, corner).ok_or(Fault::NoCorner)?;
+    if place.len() < trail.count {
+        return Err(Fault::NoRoom(0));
     }
+    lay(&trail, place);
+    Ok(trail.count)
 }

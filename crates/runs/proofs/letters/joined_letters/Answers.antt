@@ -1,8 +1,9 @@
 use Rattle.std.proofs.Common.{◌+◌, sym, ap, ◌∙◌, subst}
 use Rattle.network.specs.declared.segment.Choices.{Choices}
 use Rattle.network.specs.Networks.{segment_arc}
+use Rattle.network.proofs.SizeLists.{next_choice, nothing_left}
 use Rattle.runs.specs.Steps.{Lettered}
-use Rattle.runs.proofs.FirstLetters.{next_choice, nothing_left, begin, turn, stuck, done}
+use Rattle.runs.proofs.FirstLetters.{begin, turn, stuck, done}
 use Rattle.runs.proofs.letters.joined_letters.Goals as goal
 
 pub loop-choice-init : goal.loop-choice-init

@@ -2,7 +2,7 @@ use Rattle.std.proofs.Common.{sym, subst}
 use Rattle.corners.proofs.LeastOfCorners.{no_corner_no_route}
 use Rattle.plan.specs.Answers.{CheapestAnswer}
 use Rattle.plan.specs.Standing.{progress}
-use Rattle.plan.proofs.PassedOn.{passed_on, ok_or_fault}
+use Rattle.network.proofs.PassedOn.{passed_on, ok_or_fault}
 use Rattle.plan.proofs.Questions.{settled, cheapest_is, lacking, refused_as}
 use Rattle.plan.proofs.plan.Plan.cheapest.Goals as goal
 

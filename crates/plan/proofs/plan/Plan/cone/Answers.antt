@@ -1,7 +1,7 @@
 use Rattle.std.proofs.Common.{sym, refl, subst}
 use Rattle.plan.specs.Answers.{ConeAnswer}
 use Rattle.plan.specs.Standing.{progress}
-use Rattle.plan.proofs.PassedOn.{passed_on, ok_or_fault}
+use Rattle.network.proofs.PassedOn.{passed_on, ok_or_fault}
 use Rattle.plan.proofs.Questions.{settled, cone_of, lacking, refused_as}
 use Rattle.plan.proofs.plan.Plan.cone.Goals as goal
 

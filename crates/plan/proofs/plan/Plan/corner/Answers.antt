@@ -2,7 +2,7 @@ use Rattle.std.proofs.Common.{sym, refl, ap, subst}
 use Rattle.corners.specs.CornerLists.{cost_at}
 use Rattle.plan.specs.Answers.{CornerAnswer}
 use Rattle.plan.specs.Standing.{progress}
-use Rattle.plan.proofs.PassedOn.{passed_on, ok_or_fault}
+use Rattle.network.proofs.PassedOn.{passed_on, ok_or_fault}
 use Rattle.plan.proofs.Questions.{settled, lacking, refused_as}
 use Rattle.plan.proofs.plan.Plan.corner.Goals as goal
 

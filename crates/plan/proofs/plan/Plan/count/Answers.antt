@@ -1,7 +1,7 @@
 use Rattle.std.proofs.Common.{refl}
 use Rattle.plan.specs.Answers.{CountAnswer}
 use Rattle.plan.specs.Standing.{progress}
-use Rattle.plan.proofs.PassedOn.{passed_on}
+use Rattle.network.proofs.PassedOn.{passed_on}
 use Rattle.plan.proofs.Questions.{settled, refused_as}
 use Rattle.plan.proofs.plan.Plan.count.Goals as goal
 

@@ -2,7 +2,7 @@ use Rattle.std.proofs.Common.{Ok, refl, inl, sym, subst}
 use Rattle.plan.specs.Answers.{CornerAnswer, RouteAnswer}
 use Rattle.plan.specs.PlanParts.{PlanParts}
 use Rattle.plan.specs.Standing.{progress}
-use Rattle.plan.proofs.PassedOn.{passed_on}
+use Rattle.network.proofs.PassedOn.{passed_on}
 use Rattle.plan.proofs.RoutesTo.{rest_kept, routed}
 use Rattle.plan.proofs.plan.Plan.route.Goals as goal
 
