@@ -4,3 +4,4 @@ pub mod Unions
 pub mod Summation
 pub mod Asking
 pub mod Wrapping
+pub mod Comparing

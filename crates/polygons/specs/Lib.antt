@@ -5,6 +5,7 @@ pub mod Fits
 pub mod Hulls
 pub mod Sums
 pub mod Cheapest
+pub mod Texts
 pub mod Rays
 pub mod HullLaws
 pub mod CornersLemmas

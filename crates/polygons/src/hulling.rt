@@ -17,9 +17,7 @@ fn append(points: &mut [Cost; 64], from: usize, polygon: &Polygon)
     ensures room { length points.new ≡ 64 }
     ensures appended { take (from + polygon.now.count) points.new ≡ take from points.old ++ take polygon.now.count polygon.now.corners }
 {
-    for j in 0..polygon.count {
-        points[from + j] = polygon.corners[j];
-    }
+    points[from..from + polygon.count].copy_from_slice(&polygon.corners[..polygon.count]);
 }
 
 /// The lesser of two costs, by price and then by pressure.
@@ -28,9 +26,7 @@ fn lesser(p: Cost, q: Cost) -> Cost
     ensures below_first { (place p ≡ place result) ⊎ Lex (place result) (place p) }
     ensures below_second { (place q ≡ place result) ⊎ Lex (place result) (place q) }
 {
-    if q.price < p.price {
-        q
-    } else if q.price == p.price && q.pressure < p.pressure {
+    if (q.price, q.pressure) < (p.price, p.pressure) {
         q
     } else {
         p
@@ -50,8 +46,10 @@ fn march(left: &Polygon, right: &Polygon) -> Option<Polygon>
     wrap(&points[..left.count + right.count], lesser(p, q))
 }
 
-/// The hull, also where a polygon has no corner.
-fn hull_of(left: &Polygon, right: &Polygon) -> Option<Polygon>
+/// The hull of the corners of both: at every weight its least cost is the lesser of theirs. Its corners are theirs,
+/// and all of theirs lie in it.
+/// None where it has more than 32 corners.
+pub fn hull(left: &Polygon, right: &Polygon) -> Option<Polygon>
     ensures { Hull left.now right.now result }
 {
     if left.count == 0 {
@@ -61,13 +59,4 @@ fn hull_of(left: &Polygon, right: &Polygon) -> Option<Polygon>
         return Some(*left);
     }
     march(left, right)
-}
-
-/// The hull of the corners of both: at every weight its least cost is the lesser of theirs. Its corners are theirs,
-/// and all of theirs lie in it.
-/// None where it has more than 32 corners.
-pub fn hull(left: &Polygon, right: &Polygon) -> Option<Polygon>
-    ensures { Hull left.now right.now result }
-{
-    hull_of(left, right)
 }

@@ -3,7 +3,6 @@ ghost use Rattle.polygons.specs.Fits.{hulls, costs};
 ghost use Rattle.polygons.specs.HullLaws.{hulls_semiring, hulls_fitting};
 
 use crate::hulling::hull;
-use crate::making::{empty, single};
 use crate::minkowski::sum;
 use crate::polygon::Polygon;
 use kinds::Kind;
@@ -11,7 +10,7 @@ use network::{Choice, Cost};
 
 /// Hulls: the value of some routes is the polygon round their costs, whose corners are all costs that are
 /// alone cheapest at some weight.
-#[derive(Clone, Copy)]
+#[derive(Clone, Copy, Debug, Default, PartialEq, Eq)]
 pub struct Hulls;
 
 impl Kind for Hulls {
@@ -27,20 +26,17 @@ impl Kind for Hulls {
 
     /// No corner: without a route there is no cost.
     fn zero(&self) -> Polygon {
-        empty()
+        Polygon::default()
     }
 
     /// The empty route costs nothing.
     fn one(&self) -> Polygon {
-        single(Cost {
-            price: 0,
-            pressure: 0,
-        })
+        Polygon::from(Cost::default())
     }
 
     /// The cost of the choice.
     fn letter(&self, choice: Choice) -> Polygon {
-        single(choice.cost())
+        Polygon::from(choice.cost())
     }
 
     /// The hull of both; it does not fit where it has more than 32 corners.

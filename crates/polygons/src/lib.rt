@@ -4,11 +4,9 @@
 mod cheapest;
 mod hulling;
 mod hulls;
-mod making;
 mod marching;
 mod minkowski;
 mod polygon;
-mod questions;
 mod rounds;
 mod theorems;
 mod turning;

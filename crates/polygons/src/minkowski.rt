@@ -10,7 +10,6 @@ ghost use Rattle.polygons.specs.Corners.{corner_list};
 ghost use Rattle.polygons.specs.Fits.{hulls, costs};
 ghost use Rattle.polygons.specs.Sums.{Sum};
 
-use crate::making::{empty, round};
 use crate::polygon::Polygon;
 use crate::rounds::following;
 use crate::turning::crossing;
@@ -54,38 +53,19 @@ fn walk(left: &Polygon, right: &Polygon) -> Option<Polygon>
     requires { (0 < left.now.count) × (0 < right.now.count) }
     ensures { Answers hulls costs (chain (costs left.now) (costs right.now)) result }
 {
-    let mut corners = [Cost {
-        price: 0,
-        pressure: 0,
-    }; 32];
+    let mut corners = [Cost::default(); 32];
     let mut i = 0;
     let mut j = 0;
     for n in 0..32 {
-        let p = left.corners[i];
-        let q = right.corners[j];
-        let corner = p.plus(&q)?;
-        corners[n] = corner;
+        corners[n] = left.corners[i].plus(&right.corners[j])?;
         let (k, l) = advance(left, right, i, j);
         if k == 0 && l == 0 {
-            return Some(round(corners, n + 1));
+            return Some(Polygon::round(corners, n + 1));
         }
         i = k;
         j = l;
     }
     None
-}
-
-/// The sum, also where a polygon has no corner.
-fn sum_of(left: &Polygon, right: &Polygon) -> Option<Polygon>
-    ensures { Sum left.now right.now result }
-{
-    if left.count == 0 {
-        return Some(empty());
-    }
-    if right.count == 0 {
-        return Some(empty());
-    }
-    walk(left, right)
 }
 
 /// The sum of both figures: at every weight its least cost is the sum of theirs. Each of its corners is the sum of
@@ -94,5 +74,8 @@ fn sum_of(left: &Polygon, right: &Polygon) -> Option<Polygon>
 pub fn sum(left: &Polygon, right: &Polygon) -> Option<Polygon>
     ensures { Sum left.now right.now result }
 {
-    sum_of(left, right)
+    if left.count == 0 || right.count == 0 {
+        return Some(Polygon::default());
+    }
+    walk(left, right)
 }

@@ -1,17 +1,10 @@
 //! Which way and how far points lie from one another.
-ghost use Rattle.std.specs.Prelude.{◌≡◌, true, false, pos, ◌+ℤ◌, ◌-ℤ◌, ◌*ℤ◌, ◌≤ℤ◌, ◌<ℤ◌, ◌≢◌};
+ghost use Rattle.std.specs.Prelude.{◌≡◌, Decides, pos, ◌+ℤ◌, ◌-ℤ◌, ◌*ℤ◌, ◌<ℤ◌};
 ghost use Rattle.geometry.specs.Plane.{orient};
 ghost use Rattle.geometry.specs.Sums.{across};
 ghost use Rattle.polygons.specs.Points.{place, past};
 
-use network::{Cost, Way};
-
-/// The product of two parts of ways.
-fn product(one: i32, other: i32) -> i64
-    ensures { result ≡ one *ℤ other }
-{
-    one as i64 * other as i64
-}
+use network::{Cost, Way, product};
 
 /// The signed area between two ways: above 0 where the second turns left of the first.
 fn cross(first: &Way, second: &Way) -> i64
@@ -50,24 +43,21 @@ pub(crate) fn crossing(a: Cost, b: Cost, c: Cost, d: Cost) -> i64
 
 /// Whether s is to the right of the way from p to b.
 pub(crate) fn right_of(p: Cost, b: Cost, s: Cost) -> bool
-    ensures yes { result ≡ true → orient (place p) (place b) (place s) <ℤ pos 0 }
-    ensures no { result ≡ false → pos 0 ≤ℤ orient (place p) (place b) (place s) }
+    ensures { Decides result (orient (place p) (place b) (place s) <ℤ pos 0) }
 {
     turn(p, b, s) < 0
 }
 
 /// Whether s is in line with the way from p to b.
 pub(crate) fn in_line(p: Cost, b: Cost, s: Cost) -> bool
-    ensures yes { result ≡ true → orient (place p) (place b) (place s) ≡ pos 0 }
-    ensures no { result ≡ false → orient (place p) (place b) (place s) ≢ pos 0 }
+    ensures { Decides result (orient (place p) (place b) (place s) ≡ pos 0) }
 {
     turn(p, b, s) == 0
 }
 
 /// Whether s is farther than b on the way from p to b.
 pub(crate) fn farther(p: Cost, b: Cost, s: Cost) -> bool
-    ensures yes { result ≡ true → pos 0 <ℤ past (place p) (place b) (place s) }
-    ensures no { result ≡ false → past (place p) (place b) (place s) ≤ℤ pos 0 }
+    ensures { Decides result (pos 0 <ℤ past (place p) (place b) (place s)) }
 {
     beyond(p, b, s) > 0
 }

@@ -1,45 +1,23 @@
-use Rattle.std.proofs.Common.{◌≡◌, ℕ, ◌<◌, get_or, ℤ, sym, ap, ◌∙◌, subst, arith, w64, to_z, of_z}
-use lib.Signed.{mag}
-use Rattle.network.specs.declared.cost.Cost.{Cost}
-use Rattle.network.specs.declared.weight.Weight.{Weight}
-use Rattle.network.specs.Costs.{point, weigh}
-use Rattle.geometry.specs.Plane.{dot, nth}
-use Rattle.polygons.specs.declared.polygon.Polygon.{Polygon}
-use Rattle.polygons.specs.Cheapest.{CheapestOf, pair}
+use Rattle.std.proofs.Common.{◌≡◌, length, pos, rules, arith, ap, ◌∙◌, sym}
+use Rattle.std.specs.Slice.Iter.{iter_rest}
+use Rattle.geometry.proofs.Mapped.{map_length}
+use Rattle.polygons.proofs.Asking.{priced_at, there_at, cheapest_answer}
+use Rattle.polygons.specs.Cheapest.{pair}
 use Rattle.polygons.specs.Corners.{corner_list}
-use Rattle.polygons.proofs.Asking.{cheapest_one, cheapest_took, cheapest_kept}
-use Rattle.polygons.specs.CornersLemmas.{corner_count, corner_at}
-use Rattle.polygons.proofs.Ways.{held}
+use Rattle.polygons.specs.Points.{place, places}
 use Rattle.polygons.proofs.polygon.Polygon.cheapest.Goals as goal
-use Rattle.polygons.proofs.polygon.Polygon.cheapest.Goals.{then-below, else-below}
-
--- what corner k costs, as it was reckoned
-costs_k : (l : Polygon) (w : Weight) (k : ℕ) (d : Cost) (z : ℤ) → k < l.count → mag z < 9223372036854775808 → z ≡ weigh w (point (get_or l.corners k d))
-    → to_z w64 (of_z w64 z) ≡ dot (pair w) (nth (corner_list l) k)
-costs_k l w k d z h f e = held z f ∙ e ∙ ap (dot (pair w)) (sym (corner_at l k d h))
-
-pub loop-k-init : goal.loop-k-init
-loop-k-init c =
-    let l = c.args.self.now in
-    let w = c.args.weight.now in
-    let z = c.weighted_cost in
-    cheapest_one (corner_list l) (pair w) _ (costs_k l w 0 c.index-self-0.result z.result (omega arith) z.type_inv z.ensures)
-
-pub loop-k-preserved : goal.loop-k-preserved
-loop-k-preserved c =
-    let l = c.args.self.now in
-    let w = c.args.weight.now in
-    let now = c.loop-k in
-    let z = c.weighted_cost-least in
-    let e = costs_k l w now.k c.index-self-k.result z.result c.loop-k-test.true z.type_inv z.ensures in
-    elim c.if-below.branch [
-      | then-below t ↦ let b = t.best-is in simp b (cheapest_took (corner_list l) (pair w) now.k now.best.least now.best.corner now.invariant _ e (c.below.ensures.yes t.if-below.true))
-      | else-below t ↦ let b = t.best-is in simp b (cheapest_kept (corner_list l) (pair w) now.k now.best.least now.best.corner now.invariant _ e (c.below.ensures.no t.if-below.false))
-    ]
 
 pub returns : goal.returns
 returns c =
-    let l = c.args.self.now in
-    let now = c.loop-k in
-    subst (λ n. CheapestOf (corner_list l) (pair c.args.weight.now) n now.best.least now.best.corner)
-    (omega (arith, corner_count l, now.auto.k-end (omega arith))) now.invariant
+    let ps = corner_list c.args.self.now in
+    let costs = c.min.ensures.runs in
+    let priced = c.map-priced.ensures.runs costs.0 costs.0.seen costs.1 in
+    let counted = c.enumerate-corners.ensures.runs priced.0 priced.0.seen priced.1 in
+    let read = c.iter.ensures.runs counted.1.0 counted.1.0.seen in
+    let xs = iter_rest counted.1.0.from in
+    let these : places xs ≡ ps = ap (λ s. places (iter_rest s)) counted.1.1 ∙ ap places c.iter.ensures.rest ∙ c.corners.ensures in
+    let all : length xs ≡ costs.0.len = sym (read.1 (counted.1.2.1 ∙ priced.2.0 ∙ costs.2)) ∙ counted.1.2.0.0 ∙ sym priced.2.1 in
+    cheapest_answer ps (pair c.args.weight.now) costs.0.len costs.0.at
+    (λ k h. priced_at xs ps c.args.weight.now k these (omega (arith, h, all)) _ (λ x y z. search rules) (counted.1.0.at k) (priced.0.at k) (costs.0.at k)
+    (read.3 k) (counted.1.2.0.2 k) (counted.0 k) ((priced.2.2 (λ a r q z. search rules)).1 k))
+    (λ k h. there_at _ _ (costs.0.reads k (record { least = pos 0; corner = 0 }) h)) c.min.result (sym (ap length these) ∙ map_length place xs ∙ all) costs.3

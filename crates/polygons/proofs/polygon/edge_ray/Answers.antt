@@ -1,6 +1,6 @@
 use Rattle.std.proofs.Common.{◌≡◌, ◌-ℤ◌, arith}
 use Rattle.std.proofs.lemmas.Int.{ints}
-use Rattle.polygons.proofs.questions.edge_ray.Goals as goal
+use Rattle.polygons.proofs.polygon.edge_ray.Goals as goal
 
 pub returns : goal.returns
 returns c =

@@ -1,6 +1,6 @@
 use Rattle.std.proofs.Common.{Some, rules}
 use Rattle.polygons.proofs.Unions.{hull_answer}
-use Rattle.polygons.proofs.hulling.hull_of.Goals as goal
+use Rattle.polygons.proofs.hulling.hull.Goals as goal
 
 pub returns-then-left-eq0 : goal.returns-then-left-eq0
 returns-then-left-eq0 c = hull_answer c.args.left.now c.args.right.now (Some c.args.right.now) (search rules)

@@ -1,7 +1,7 @@
 use Rattle.std.proofs.Common.{take}
 use Rattle.polygons.specs.Points.{places}
 use Rattle.polygons.specs.Rounding.{listed_of, turns_of, apart_of, leftmost_of, lowest_of}
-use Rattle.polygons.proofs.making.round.Goals as goal
+use Rattle.polygons.proofs.polygon.Polygon.round.Goals as goal
 
 pub invariant_of-result : goal.invariant_of-result
 invariant_of-result c =
