@@ -1,5 +1,6 @@
 -- A walk that has its next corner goes on or closes; going on, the number of points to its left falls.
 use Rattle.std.proofs.Common.{◌≡◌, ℕ, zero, suc, ◌<◌, ◌≤◌, ◌⊎◌, List, [], ◌∷◌, ◌++◌, length, ℤ, sym, refl, ◌∙◌, subst, arith}
+use Rattle.std.proofs.lemmas.List.{length_push}
 use Rattle.geometry.specs.Exposed.{Exposed}
 use Rattle.geometry.specs.Plane.{Pt, Lex, Near, nth, In}
 use Rattle.geometry.specs.Polygons.{Polygon}
@@ -9,7 +10,7 @@ use Rattle.geometry.specs.Walks.{Next, Wraps}
 use Rattle.geometry.proofs.DoesNotFit.{too_many, too_far}
 use Rattle.geometry.proofs.Falling.{walks, lefts_most}
 use Rattle.geometry.proofs.Hull.{walked_exposed}
-use Rattle.geometry.proofs.Members.{nth_old, nth_new, length_more}
+use Rattle.geometry.proofs.Members.{nth_old, nth_new}
 use Rattle.geometry.proofs.Searching.{found_next, found_alone}
 use Rattle.geometry.proofs.Turning.{same?}
 use Rattle.geometry.proofs.Walking.{extend, close, close_one}
@@ -34,7 +35,7 @@ begin pts o l = record {
 module _ (pts os : List Pt) (o p : Pt) (g : Going pts os o p) where
   -- the corner at hand is exposed
   pub going_exposed : Exposed pts p
-  going_exposed = subst (Exposed pts) (nth_new os p) (walked_exposed pts (os ++ p ∷ []) g.walked (length os) (omega (arith, length_more os p)))
+  going_exposed = subst (Exposed pts) (nth_new os p) (walked_exposed pts (os ++ p ∷ []) g.walked (length os) (omega (arith, length_push os p)))
 
   pub going_start : In pts o
   going_start = subst (In pts) g.home (g.walked.from 0 g.walked.some)
@@ -43,7 +44,7 @@ module _ (pts os : List Pt) (o p : Pt) (g : Going pts os o p) where
   start_exposed = subst (Exposed pts) g.home (walked_exposed pts (os ++ p ∷ []) g.walked 0 g.walked.some)
 
   pub not_home : 0 < length os → ¬ (p ≡ o)
-  not_home h e = g.walked.return (length os) h (omega (arith, length_more os p)) (nth_new os p ∙ e ∙ sym g.home)
+  not_home h e = g.walked.return (length os) h (omega (arith, length_push os p)) (nth_new os p ∙ e ∙ sym g.home)
 
   -- the next corner is known
   pub closes_next : (q : Pt) → Next pts p q → q ≡ o → Wraps pts (os ++ p ∷ [])
@@ -62,7 +63,7 @@ module _ (pts os : List Pt) (o p : Pt) (g : Going pts os o p) where
     where
       go : (os : List Pt) → Going pts os o p → Wraps pts (os ++ p ∷ [])
       go [] g = close_one pts p g.walked a
-      go (r ∷ os) g = absurd (g.walked.return (suc (length os)) (omega arith) (omega (arith, length_more os p))
+      go (r ∷ os) g = absurd (g.walked.return (suc (length os)) (omega arith) (omega (arith, length_push os p))
           (nth_new (r ∷ os) p ∙ sym (a (nth ((r ∷ os) ++ p ∷ []) 0) (g.walked.from 0 g.walked.some))))
 
   -- the next corner was searched for
@@ -92,7 +93,7 @@ falls pts os o p q g f n = falls_next pts os o p q g (found_next pts p q f (othe
 -- a walk that stands at its corner number n, counted from 0, shows that no polygon of n corners fits
 pub going_too_many : (n : ℕ) (pts os : List Pt) (o p : Pt) → Going pts os o p → n ≤ length os → (qs : List Pt) → Polygon qs → length qs ≤ n
     → ¬ (support qs ≡ support pts)
-going_too_many n pts os o p g h qs k l = too_many n pts (os ++ p ∷ []) qs g.walked (omega (arith, length_more os p)) k l
+going_too_many n pts os o p g h qs k l = too_many n pts (os ++ p ∷ []) qs g.walked (omega (arith, length_push os p)) k l
 
 -- a walk that stands out of range shows that no polygon in range fits
 pub going_too_far : (M : ℤ) (pts os : List Pt) (o p : Pt) → Going pts os o p → ¬ (Near M p) → (qs : List Pt) → Polygon qs

@@ -1,5 +1,6 @@
 -- The steps of a walk round sums, where the corners are read off lists of other things.
 use Rattle.std.proofs.Common.{◌≡◌, ℕ, ◌<◌, List, [], ◌∷◌, ◌++◌, map, length, get_or, pos, ◌<ℤ◌, sym, ap, ◌∙◌, subst, ap₂, subst₂, arith}
+use Rattle.std.proofs.lemmas.List.{length-map}
 use Rattle.geometry.specs.Cones.{following}
 use Rattle.geometry.specs.Exposed.{Exposed}
 use Rattle.geometry.specs.Plane.{Pt, nth}
@@ -7,12 +8,12 @@ use Rattle.geometry.specs.Polygons.{after, Polygon}
 use Rattle.geometry.specs.Steps.{measure, Summing, Advanced, SumAdvances}
 use Rattle.geometry.specs.Sums.{add, sums, across}
 use Rattle.geometry.specs.Walks.{Wraps}
-use Rattle.geometry.proofs.Mapped.{nth_map, map_length, map_push}
+use Rattle.geometry.proofs.Mapped.{nth_map, map_push}
 use Rattle.geometry.proofs.Round.{after_within}
 use Rattle.geometry.proofs.Summing.{sum_closes, sum_goes, sum_falls, sum_advances}
 
 after_map : {A : Type 0} (f : A → Pt) (xs : List A) (i k : ℕ) → k ≡ after (length xs) i → after (length (map f xs)) i ≡ k
-after_map f xs i k e = ap (λ n. after n i) (map_length f xs) ∙ sym e
+after_map f xs i k e = ap (λ n. after n i) (length-map xs f) ∙ sym e
 
 pub following_map : {A : Type 0} (f : A → Pt) (xs : List A) (i k : ℕ) (d : A) → i < length xs → k ≡ after (length xs) i
     → following (map f xs) i ≡ f (get_or xs k d)
@@ -31,7 +32,7 @@ module _ {A : Type 0} (f : A → Pt) (xs ys : List A) (d : A) (i j k l : ℕ) (h
       ∙ ap₂ (λ p q. across (f (get_or xs i d)) (f (get_or xs k d)) p q) (nth_map f ys j d hj) (following_map f ys j l d hj el)
 
   steps : SumAdvances (map f xs) (map f ys) i j
-  steps = sum_advances (map f xs) (map f ys) i j g h (omega (arith, map_length f xs)) (omega (arith, map_length f ys)) (subst (Exposed (sums (map f xs) (map f ys))) (sym (now_map f xs ys d i j hi hj)) x)
+  steps = sum_advances (map f xs) (map f ys) i j g h (omega (arith, length-map xs f)) (omega (arith, length-map ys f)) (subst (Exposed (sums (map f xs) (map f ys))) (sym (now_map f xs ys d i j hi hj)) x)
 
   pub step_one : pos 0 <ℤ across (f (get_or xs i d)) (f (get_or xs k d)) (f (get_or ys j d)) (f (get_or ys l d)) → Advanced (map f xs) (map f ys) i j k j
   step_one t = subst (λ m. Advanced (map f xs) (map f ys) i j m j) (after_map f xs i k ek) (steps.first (subst (λ z. pos 0 <ℤ z) (sym turn_map) t))
@@ -46,7 +47,7 @@ module _ {A : Type 0} (f : A → Pt) (xs ys : List A) (d : A) (i j k l : ℕ) (h
 module _ {A : Type 0} (f : A → Pt) (xs ys os : List A) (d : A) (i j k l : ℕ) (c : A) (s : Summing (map f xs) (map f ys) (map f os) i j) (a : Advanced (map f xs) (map f ys) i j k l)
     (e : f c ≡ add (f (get_or xs i d)) (f (get_or ys j d))) where
   now_is : f c ≡ add (nth (map f xs) i) (nth (map f ys) j)
-  now_is = e ∙ sym (now_map f xs ys d i j (omega (arith, s.within_one, map_length f xs)) (omega (arith, s.within_two, map_length f ys)))
+  now_is = e ∙ sym (now_map f xs ys d i j (omega (arith, s.within_one, length-map xs f)) (omega (arith, s.within_two, length-map ys f)))
 
   pushed : map f os ++ add (nth (map f xs) i) (nth (map f ys) j) ∷ [] ≡ map f (os ++ c ∷ [])
   pushed = sym (map_push f os c (add (nth (map f xs) i) (nth (map f ys) j)) now_is)

@@ -1,5 +1,5 @@
 -- Points of lists.
-use Rattle.std.proofs.Common.{◌≡◌, ℕ, zero, suc, ◌<◌, ◌⊎◌, List, [], ◌∷◌, ◌++◌, length, refl, ap, subst, inl, inr, arith}
+use Rattle.std.proofs.Common.{◌≡◌, ℕ, zero, suc, ◌<◌, ◌⊎◌, List, [], ◌∷◌, ◌++◌, length, refl, subst, inl, inr, arith}
 use Rattle.geometry.specs.Plane.{Pt, nth, In}
 
 pub in_tail : {x : Pt} {xs : List Pt} {p : Pt} → In xs p → In (x ∷ xs) p
@@ -50,7 +50,3 @@ nth_old (r ∷ rs) q (suc i) h = nth_old rs q i (omega arith)
 pub nth_new : (rs : List Pt) (q : Pt) → nth (rs ++ q ∷ []) (length rs) ≡ q
 nth_new [] q = refl
 nth_new (r ∷ rs) q = nth_new rs q
-
-pub length_more : (rs : List Pt) (q : Pt) → length (rs ++ q ∷ []) ≡ suc (length rs)
-length_more [] q = refl
-length_more (r ∷ rs) q = ap suc (length_more rs q)

@@ -1,7 +1,7 @@
 -- A walk round the sums of two polygons' corners, whose corners so far stand in the first cells of an array.
 use Rattle.std.proofs.Common.{◌≡◌, ℕ, ◌+◌, ◌<◌, ◌≤◌, List, [], ◌∷◌, ◌++◌, length, get_or, take, set, ℤ, pos, ◌<ℤ◌, Some, None, Option, sym, ap, ◌∙◌, subst, ap₂, subst₂, arith, w64, to_z, of_z}
 use lib.Signed.{mag}
-use Rattle.std.proofs.lemmas.List.{length-take-le, take_more_set}
+use Rattle.std.proofs.lemmas.List.{length-take-le, take_more_set, length-map}
 use Rattle.std.proofs.lemmas.Int.{by_lt_z}
 use Rattle.kinds.specs.Answers.{Answers}
 use Rattle.network.specs.declared.cost.Cost.{Cost}
@@ -16,7 +16,7 @@ use Rattle.geometry.specs.Support.{support, chain}
 use Rattle.geometry.specs.Walks.{Wraps}
 use Rattle.geometry.proofs.Going.{going_too_many, going_too_far}
 use Rattle.geometry.proofs.Integers.{lin}
-use Rattle.geometry.proofs.Mapped.{map_length, map_push}
+use Rattle.geometry.proofs.Mapped.{map_push}
 use Rattle.geometry.proofs.Parts.{chain_corners, chain_covers}
 use Rattle.geometry.proofs.Results.{chained}
 use Rattle.geometry.proofs.Round.{after_within}
@@ -123,7 +123,7 @@ module _ (l r : Polygon) (cs : List Cost) (n i j : ℕ) (s : Summing (corner_lis
 pub sum_misfit : (l r : Polygon) (cs : List Cost) (n i j : ℕ) → length cs ≡ 32 → n ≤ 32
     → Summing (corner_list l) (corner_list r) (places (take n cs)) i j → 32 ≤ n → Fits (chain (costs l) (costs r)) → ⊥
 sum_misfit l r cs n i j e h s k f =
-    going_too_many 32 (sums (corner_list l) (corner_list r)) (places (take n cs)) _ _ s.going (omega (arith, map_length place (take n cs), length-take-le n cs (omega arith)))
+    going_too_many 32 (sums (corner_list l) (corner_list r)) (places (take n cs)) _ _ s.going (omega (arith, length-map (take n cs) place, length-take-le n cs (omega arith)))
     f.corners f.rounded f.few (f.support_is ∙ sym (sums_support (corner_list l) (corner_list r)))
 
 corners_of_pairs : (l r : Polygon) (a : Option Polygon) → Answers hulls costs (chain (costs l) (costs r)) a

@@ -1,12 +1,11 @@
 -- The hull of two polygons: their corners one after the other, the least of them, and what a walk round them shows.
 use Rattle.std.proofs.Common.{◌≡◌, ℕ, ◌+◌, ◌<◌, ◌⊎◌, List, [], ◌∷◌, ◌++◌, length, get_or, take, set, Some, None, Option, sym, ap, ◌∙◌, subst, inl, inr, arith}
-use Rattle.std.proofs.lemmas.List.{append_assoc, map-append, take_more, take_more_set}
+use Rattle.std.proofs.lemmas.List.{append_assoc, map-append, take_more, take_more_set, length-map}
 use Rattle.kinds.specs.Answers.{Answers}
 use Rattle.network.specs.declared.cost.Cost.{Cost}
 use Rattle.geometry.specs.Plane.{Pt, In, Lex}
 use Rattle.geometry.specs.Steps.{LeastOf}
 use Rattle.geometry.specs.Support.{support, join}
-use Rattle.geometry.proofs.Mapped.{map_length}
 use Rattle.geometry.proofs.Members.{in_append_l, in_append_r}
 use Rattle.geometry.proofs.Parts.{join_corners, join_covers}
 use Rattle.geometry.proofs.Results.{least_union}
@@ -57,7 +56,7 @@ module _ (l r : Polygon) (d e : Cost) (hl : 0 < l.count) (hr : 0 < r.count) wher
   pub least_of_both : (xs : List Cost) (o : Cost) → places xs ≡ both → (o ≡ p) ⊎ (o ≡ q) → (place p ≡ place o) ⊎ Lex (place o) (place p)
       → (place q ≡ place o) ⊎ Lex (place o) (place q) → LeastOf (places xs) (place o) (length xs)
   least_of_both xs o u one a b =
-      subst (LeastOf (places xs) (place o)) (map_length place xs)
+      subst (LeastOf (places xs) (place o)) (length-map xs place)
       (subst (λ z. LeastOf z (place o) (length z)) (sym u)
       (least_union (corner_list l) (corner_list r) (polygon_of l) (polygon_of r) (place o) (among o one)
       (λ _. subst (λ z. (z ≡ place o) ⊎ Lex (place o) z) (sym (corner_at l 0 d hl)) a)

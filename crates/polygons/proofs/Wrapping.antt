@@ -1,6 +1,6 @@
 -- A walk whose corners so far stand in the first cells of an array goes on, closes, or shows that too many are left.
 use Rattle.std.proofs.Common.{◌≡◌, ℕ, ◌+◌, ◌<◌, ◌≤◌, List, [], ◌∷◌, ◌++◌, length, take, set, sym, subst, arith}
-use Rattle.std.proofs.lemmas.List.{length-take-le, take_more_set}
+use Rattle.std.proofs.lemmas.List.{length-take-le, take_more_set, length-map}
 use Rattle.network.specs.declared.cost.Cost.{Cost}
 use Rattle.geometry.specs.Exposed.{Exposed}
 use Rattle.geometry.specs.Plane.{Pt}
@@ -10,13 +10,13 @@ use Rattle.geometry.specs.Support.{support}
 use Rattle.geometry.specs.Walks.{Wraps}
 use Rattle.geometry.proofs.Going.{begin, going_exposed, going_too_many}
 use Rattle.geometry.proofs.Hull.{hull_polygon, hull_support}
-use Rattle.geometry.proofs.Mapped.{map_length, closes_map, goes_map}
+use Rattle.geometry.proofs.Mapped.{closes_map, goes_map}
 use Rattle.polygons.specs.Fits.{Fits}
 use Rattle.polygons.specs.Points.{place, places}
 
 module _ (xs : List Cost) (o : Pt) where
   pub begins : LeastOf (places xs) o (length xs) → Going (places xs) (places (take 0 xs)) o o
-  begins l = begin (places xs) o (subst (LeastOf (places xs) o) (sym (map_length place xs)) l)
+  begins l = begin (places xs) o (subst (LeastOf (places xs) o) (sym (length-map xs place)) l)
 
   -- the walk stands at c
   module _ (cs : List Cost) (n : ℕ) (room : length cs ≡ 32) (few : n < 32) (c : Cost) (g : Going (places xs) (places (take n cs)) o (place c)) where
@@ -25,7 +25,7 @@ module _ (xs : List Cost) (o : Pt) where
 
     module _ (q : Pt) (f : Found (places xs) (place c) q (length xs)) where
       found : Found (places xs) (place c) q (length (places xs))
-      found = subst (Found (places xs) (place c) q) (sym (map_length place xs)) f
+      found = subst (Found (places xs) (place c) q) (sym (length-map xs place)) f
 
       pushed : take (n + 1) (set cs n c) ≡ take n cs ++ c ∷ []
       pushed = take_more_set cs n c (omega arith)
@@ -46,4 +46,4 @@ module _ (xs : List Cost) (o : Pt) where
 pub misfit : (pts : List Pt) (cs : List Cost) (n : ℕ) (o p : Pt) → length cs ≡ 32 → n ≤ 32 → Going pts (places (take n cs)) o p
     → 32 ≤ n → Fits (support pts) → ⊥
 misfit pts cs n o p e h g k f =
-    going_too_many 32 pts (places (take n cs)) o p g (omega (arith, map_length place (take n cs), length-take-le n cs (omega arith))) f.corners f.rounded f.few f.support_is
+    going_too_many 32 pts (places (take n cs)) o p g (omega (arith, length-map (take n cs) place, length-take-le n cs (omega arith))) f.corners f.rounded f.few f.support_is

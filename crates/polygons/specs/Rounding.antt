@@ -1,13 +1,12 @@
 -- A struct's polygon is a polygon, and back.
 use Rattle.std.specs.Prelude.{◌≡◌, ℕ, ◌≤◌, ◌⊎◌, List, length, take, ◌≤ℤ◌, ◌<ℤ◌}
 use Rattle.std.proofs.Common.{arith, ◌∙◌, inl, inr}
-use Rattle.std.proofs.lemmas.List.{length-take-le}
+use Rattle.std.proofs.lemmas.List.{length-take-le, length-map}
 use Rattle.std.proofs.lemmas.Int.{by_lt_z}
 use Rattle.network.specs.declared.cost.Cost.{Cost}
 use Rattle.geometry.specs.Plane.{Pt, Lex, nth}
 use Rattle.geometry.specs.Polygons.{Polygon as Rounded}
 use Rattle.geometry.proofs.Integers.{lin}
-use Rattle.geometry.proofs.Mapped.{map_length}
 use Rattle.polygons.specs.declared.polygon.Polygon.{Polygon}
 use Rattle.polygons.specs.Corners.{corner_list}
 use Rattle.polygons.specs.Points.{place, places}
@@ -54,4 +53,4 @@ pub lowest_of : (ps : List Pt) → Rounded ps → Lowest ps
 lowest_of ps g i (u, h) = lex_low (nth ps 0) (nth ps i) (g.start i u h)
 
 pub listed_of : (cs : List Cost) (n : ℕ) → n ≤ 32 → length cs ≡ 32 → length (places (take n cs)) ≡ n
-listed_of cs n h e = map_length place (take n cs) ∙ length-take-le n cs (omega arith)
+listed_of cs n h e = length-map (take n cs) place ∙ length-take-le n cs (omega arith)

@@ -14,6 +14,7 @@ use crate::polygon::Polygon;
 use crate::rounds::following;
 use crate::turning::crossing;
 use network::Cost;
+use std::cmp::Ordering;
 
 /// Where a walk goes from corners i and j, whose next are k and l: along the first list where the turn is to the left,
 /// along the second where it is to the right, and along both where the edges are parallel.
@@ -22,12 +23,10 @@ fn onward(turn: i64, i: usize, j: usize, k: usize, l: usize) -> (usize, usize)
     ensures second { turn <ℤ pos 0 → result ≡ (i, l) }
     ensures both { turn ≡ pos 0 → result ≡ (k, l) }
 {
-    if turn > 0 {
-        (k, j)
-    } else if turn < 0 {
-        (i, l)
-    } else {
-        (k, l)
+    match turn.cmp(&0) {
+        Ordering::Greater => (k, j),
+        Ordering::Less => (i, l),
+        Ordering::Equal => (k, l),
     }
 }
 

@@ -1,6 +1,6 @@
 use Rattle.std.proofs.Common.{◌≡◌, length, pos, rules, arith, ap, ◌∙◌, sym}
+use Rattle.std.proofs.lemmas.List.{length-map}
 use Rattle.std.specs.Slice.Iter.{iter_rest}
-use Rattle.geometry.proofs.Mapped.{map_length}
 use Rattle.polygons.proofs.Asking.{priced_at, there_at, cheapest_answer}
 use Rattle.polygons.specs.Cheapest.{pair}
 use Rattle.polygons.specs.Corners.{corner_list}
@@ -20,4 +20,4 @@ returns c =
     cheapest_answer ps (pair c.args.weight.now) costs.0.len costs.0.at
     (λ k h. priced_at xs ps c.args.weight.now k these (omega (arith, h, all)) _ (λ x y z. search rules) (counted.1.0.at k) (priced.0.at k) (costs.0.at k)
     (read.3 k) (counted.1.2.0.2 k) (counted.0 k) ((priced.2.2 (λ a r q z. search rules)).1 k))
-    (λ k h. there_at _ _ (costs.0.reads k (record { least = pos 0; corner = 0 }) h)) c.min.result (sym (ap length these) ∙ map_length place xs ∙ all) costs.3
+    (λ k h. there_at _ _ (costs.0.reads k (record { least = pos 0; corner = 0 }) h)) c.min.result (sym (ap length these) ∙ length-map xs place ∙ all) costs.3
