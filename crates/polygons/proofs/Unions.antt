@@ -1,6 +1,6 @@
 -- The hull of two polygons: their corners one after the other, the least of them, and what a walk round them shows.
-use Rattle.std.proofs.Common.{◌≡◌, ℕ, ◌+◌, ◌<◌, ◌⊎◌, List, [], ◌∷◌, ◌++◌, length, get_or, take, set, Some, None, Option, sym, ap, ◌∙◌, subst, inl, inr, arith}
-use Rattle.std.proofs.lemmas.List.{append_assoc, map-append, take_more, take_more_set, length-map}
+use Rattle.std.proofs.Common.{◌≡◌, ◌+◌, ◌<◌, ◌⊎◌, List, ◌++◌, length, get_or, take, Some, None, Option, sym, ap, ◌∙◌, subst, inl, inr, arith}
+use Rattle.std.proofs.lemmas.List.{map-append, length-map}
 use Rattle.kinds.specs.Answers.{Answers}
 use Rattle.network.specs.declared.cost.Cost.{Cost}
 use Rattle.geometry.specs.Plane.{Pt, In, Lex}
@@ -17,17 +17,6 @@ use Rattle.polygons.specs.Hulls.{CornersOfParts, PartsInside, Hull}
 use Rattle.polygons.specs.Points.{place, places}
 use Rattle.polygons.specs.CornersLemmas.{corner_at, corner_in}
 use Rattle.polygons.specs.Rounding.{polygon_of}
-
--- one more cost behind a front
-pub append_more : (xs ys front : List Cost) (from j : ℕ) (d : Cost) → from + j < length xs → j < length ys → take (from + j) xs ≡ front ++ take j ys
-    → take (from + (j + 1)) (set xs (from + j) (get_or ys j d)) ≡ front ++ take (j + 1) ys
-append_more xs ys front from j d h k e =
-    let n : from + (j + 1) ≡ (from + j) + 1 = omega arith in
-    ap (λ m. take m (set xs (from + j) (get_or ys j d))) n
-    ∙ take_more_set xs (from + j) (get_or ys j d) h
-    ∙ ap (λ z. z ++ get_or ys j d ∷ []) e
-    ∙ append_assoc front (take j ys) (get_or ys j d ∷ [])
-    ∙ ap (λ z. front ++ z) (sym (take_more ys j d k))
 
 -- two fillings of an array give both lists
 pub union : (l r : Polygon) (one two : List Cost) → take (0 + l.count) one ≡ take l.count l.corners

@@ -42,8 +42,8 @@ pub(crate) fn wrap(points: &[Cost], first: Cost) -> Option<Polygon>
 {
     let mut corners = [first; 32];
     let mut at = first;
-    for n in 0..32 {
-        corners[n] = at;
+    for (n, corner) in corners.iter_mut().enumerate() {
+        *corner = at;
         let next = next_corner(points, at);
         if next == first {
             return Some(Polygon::round(corners, n + 1));

@@ -55,8 +55,8 @@ fn walk(left: &Polygon, right: &Polygon) -> Option<Polygon>
     let mut corners = [Cost::default(); 32];
     let mut i = 0;
     let mut j = 0;
-    for n in 0..32 {
-        corners[n] = left.corners[i].plus(&right.corners[j])?;
+    for (n, corner) in corners.iter_mut().enumerate() {
+        *corner = left.corners[i].plus(&right.corners[j])?;
         let (k, l) = advance(left, right, i, j);
         if k == 0 && l == 0 {
             return Some(Polygon::round(corners, n + 1));

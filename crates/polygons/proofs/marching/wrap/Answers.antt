@@ -12,7 +12,7 @@ loop-n-init c = (refl, begins c.args.points.now (place c.args.first) c.requires,
 pub next_corner-next-requires : goal.next_corner-next-requires
 next_corner-next-requires c =
     let now = c.loop-n in
-    (now.invariant.1.among, exposed c.args.points.now (place c.args.first) now.corners now.n now.invariant.0 (omega arith) now.at now.invariant.1)
+    (now.invariant.1.among, exposed c.args.points.now (place c.args.first) now.corner-items now.n now.invariant.0 (omega arith) now.at now.invariant.1)
 
 pub round-requires : goal.round-requires
 round-requires c =
@@ -21,7 +21,7 @@ round-requires c =
       omega arith,
       (
         length-set _ _ _ ∙ now.invariant.0,
-        closed_round c.args.points.now (place c.args.first) now.corners now.n now.invariant.0 (omega arith) now.at now.invariant.1
+        closed_round c.args.points.now (place c.args.first) now.corner-items now.n now.invariant.0 (omega arith) now.at now.invariant.1
             (place next.result) next.ensures (same_place c.next_corner-next.result c.args.first c.eq.result c.eq.ensures c.if-eq.true),
       ),
     )
@@ -31,16 +31,16 @@ returns-then-eq c =
     let now = c.loop-n in
     let next = c.next_corner-next in
     ap support c.round.ensures
-    ∙ closed_support c.args.points.now (place c.args.first) now.corners now.n now.invariant.0 (omega arith) now.at now.invariant.1
+    ∙ closed_support c.args.points.now (place c.args.first) now.corner-items now.n now.invariant.0 (omega arith) now.at now.invariant.1
     (place next.result) next.ensures (same_place c.next_corner-next.result c.args.first c.eq.result c.eq.ensures c.if-eq.true)
 
 -- the walk one corner on
-onward : (c : goal.Else-eq) → Going (places c.args.points.now) (places (take (c.loop-n.n + 1) (set c.loop-n.corners c.loop-n.n c.loop-n.at)))
+onward : (c : goal.Else-eq) → Going (places c.args.points.now) (places (take (c.loop-n.n + 1) (set c.loop-n.corner-items c.loop-n.n c.loop-n.at)))
     (place c.args.first) (place c.next_corner-next.result)
 onward c =
     let now = c.loop-n in
     let next = c.next_corner-next in
-    goes_on c.args.points.now (place c.args.first) now.corners now.n now.invariant.0 (omega arith) now.at now.invariant.1
+    goes_on c.args.points.now (place c.args.first) now.corner-items now.n now.invariant.0 (omega arith) now.at now.invariant.1
     (place next.result) next.ensures (other_place c.next_corner-next.result c.args.first c.eq.result c.eq.ensures c.if-eq.false)
 
 pub loop-n-preserved : goal.loop-n-preserved

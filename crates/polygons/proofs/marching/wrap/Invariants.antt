@@ -7,6 +7,6 @@ use Rattle.polygons.proofs.marching.wrap.Given as goal
 
 abbrev pub invariant-loop-n : goal.invariant-loop-n
 invariant-loop-n l =
-    (length l.corners ≡ 32)
-    × Going (places l.points) (places (take l.n l.corners)) (place l.first) (place l.at)
+    (length l.corner-items ≡ 32)
+    × Going (places l.points) (places (take l.n l.corner-items)) (place l.first) (place l.at)
     × (32 ≤ l.n → Fits (support (places l.points)) → ⊥)

@@ -8,8 +8,8 @@ use Rattle.polygons.proofs.minkowski.walk.Given as goal
 
 abbrev pub invariant-loop-n : goal.invariant-loop-n
 invariant-loop-n l =
-    (length l.corners ≡ 32)
+    (length l.corner-items ≡ 32)
     × (l.i < l.left.count)
     × (l.j < l.right.count)
-    × Summing (corner_list l.left) (corner_list l.right) (places (take l.n l.corners)) l.i l.j
+    × Summing (corner_list l.left) (corner_list l.right) (places (take l.n l.corner-items)) l.i l.j
     × (32 ≤ l.n → Fits (chain (costs l.left) (costs l.right)) → ⊥)
