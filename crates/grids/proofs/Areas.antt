@@ -1,12 +1,17 @@
 -- When so many rows of so many cells are a grid. Assumes nothing.
-use Rattle.std.proofs.Common.{ℕ, ◌*◌, ◌≤◌, mul-le-mul, one-mul, mul-one, arith}
+use Rattle.std.proofs.Common.{ℕ, zero, suc, ◌*◌, ◌≤◌, Bool, true, false, mul-pos, mul_comm, refl, Decides, arith}
+use Rattle.std.specs.Bool.{then_some}
+use Rattle.std.specs.Option.{SomeIff}
+use Rattle.std.proofs.lemmas.Bool.Decides.{not_from_Decides}
 use Rattle.grids.specs.Laying.{Area}
 
-pub wide_enough : (w h : ℕ) → Area w h → w ≤ 128
-wide_enough w h a = let l : w * 1 ≤ w * h = mul-le-mul {n₁ = w} {m₁ = 1} {n₂ = w} {m₂ = h} (omega arith) a.high in omega (arith, mul-one w, a.small)
+some_factor : (w h : ℕ) → 1 ≤ w * h → 1 ≤ w
+some_factor zero h l = omega arith
+some_factor (suc w) h l = omega arith
 
-pub high_enough : (w h : ℕ) → Area w h → h ≤ 128
-high_enough w h a = let l : 1 * h ≤ w * h = mul-le-mul {n₁ = 1} {m₁ = h} {n₂ = w} {m₂ = h} a.wide (omega arith) in omega (arith, one-mul h, a.small)
-
-pub area_bounded : (w h : ℕ) → w ≤ 128 → h ≤ 128 → w * h ≤ 16384
-area_bounded w h l k = mul-le-mul {n₁ = w} {m₁ = h} {n₂ = 128} {m₂ = 128} l k
+-- a number of cells in 1..128 makes a grid, and no other does
+pub area_counted : (w h : ℕ) (b : Bool) → Decides b ((1 ≤ w * h) × (w * h ≤ 128)) → SomeIff (then_some b (w * h)) (Area w h) (w * h)
+area_counted w h true d =
+    let l = d.0 refl in
+    (record { wide = some_factor w h l.0; high = some_factor h w (omega (arith, l.0, mul_comm w h)); small = l.1 }, refl)
+area_counted w h false d = λ a. not_from_Decides false d refl (mul-pos a.wide a.high, a.small)

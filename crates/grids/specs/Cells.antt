@@ -14,6 +14,10 @@ cell cs v = slice_index_or cs v Closed
 abbrev pub Mild : Size → Type 0
 Mild z = Within 5000 z.price × Within 5000 z.pressure
 
+-- a cell that is closed or has an extra that a grid may have
+pub record MildCell (c : Cell) : Type 0 where
+  pub extra : (x : Size) → c ≡ Open x → Mild x
+
 -- an open cell, and its extra
 pub record OpenCell (cs : List Cell) : Type 0 where
   pub number : ℕ

@@ -2,10 +2,7 @@
 #![tactic(auto)]
 
 mod cell;
-mod crossing;
 mod grid;
-mod laying;
-mod mildness;
 mod raising;
 mod walking;
 

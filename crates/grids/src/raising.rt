@@ -1,5 +1,5 @@
 //! Sizes with an extra.
-ghost use Rattle.std.specs.Prelude.{◌≡◌, ◌≤◌, map, length, take};
+ghost use Rattle.std.specs.Prelude.{◌≡◌, map};
 ghost use Rattle.grids.specs.Cells.{Mild, MildSizes};
 ghost use Rattle.grids.specs.Grids.{paid as paid_of, plus_extra};
 
@@ -25,17 +25,13 @@ fn raised(size: &Size, extra: &Size) -> Size
     }
 }
 
-/// The first sizes with an extra.
-pub(crate) fn raise(sizes: &[Size; 8], count: usize, extra: &Size) -> [Size; 8]
-    requires few { count ≤ 8 }
-    requires mild { MildSizes (take count sizes.now) }
+/// Puts an extra on each of the sizes.
+pub(crate) fn raise(sizes: &mut [Size], extra: &Size)
+    requires mild { MildSizes sizes.old }
     requires extra { Mild extra.now }
-    ensures raised { take count result ≡ map (plus_extra extra.now) (take count sizes.now) }
-    ensures room { length result ≡ 8 }
+    ensures { sizes.new ≡ map (plus_extra extra.now) sizes.old }
 {
-    let mut out = *sizes;
-    for k in 0..count {
-        out[k] = raised(&sizes[k], extra);
+    for size in sizes.iter_mut() {
+        *size = raised(size, extra);
     }
-    out
 }

@@ -1,9 +1,0 @@
-use Rattle.std.proofs.Common.{sym}
-use Rattle.grids.specs.Grids.{grid_cells, grid_sizes}
-use Rattle.grids.proofs.Numbered.{segments_of_grid}
-use Rattle.grids.proofs.grid.Grid.numbered.Goals as goal
-
-pub returns : goal.returns
-returns c =
-    let g = c.args.self.now in
-    sym (segments_of_grid g.width g.height (grid_cells g) (grid_sizes g))

@@ -1,6 +1,0 @@
-use Rattle.std.proofs.Common.{◌≡◌, ℕ, ◌<◌}
-use Rattle.network.specs.Choices.{choice}
-use Rattle.grids.proofs.mildness.sizes_apart.Given as goal
-
-abbrev pub invariant-loop-j : goal.invariant-loop-j
-invariant-loop-j l = (k : ℕ) → k < l.j → (i : ℕ) → i < k → choice l.sizes i ≡ choice l.sizes k → ⊥
