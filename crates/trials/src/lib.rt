@@ -1,7 +1,10 @@
 //! Grids and closings tried out: routes counted and weighed, and every refusal in its order.
 #![tactic(auto)]
 
-use closings::Closing;
+ghost use Rattle.std.specs.Prelude.{◌≡◌};
+ghost use Rattle.grids.specs.Grids.{grid, grid_network};
+ghost use Rattle.trials.specs.Fixtures.{opened, small_cells, small_sizes};
+
 use figures::{count_routes, least_cost};
 use grids::{Cell, Grid};
 use kinds::Tally;
@@ -9,46 +12,40 @@ use network::{Fault, Size, Weight};
 use runs::Sheet;
 use sources::Source;
 
-/// How many routes lead from one node to another, or the number of the fault.
-pub(crate) fn routes<S: Source>(source: &S, start: usize, target: usize) -> u32 {
-    let mut cells = [Tally { count: 0 }; 128];
+/// How many routes lead from one node to another; none where the sheet has no such node.
+pub(crate) fn routes<S: Source>(
+    source: &S,
+    start: usize,
+    target: usize,
+) -> Result<Option<u32>, Fault> {
+    let mut cells = [Tally::default(); 128];
     let mut sheet = Sheet::over(&mut cells);
-    match count_routes(source, start, &mut sheet) {
-        Ok(()) => match sheet.read(target) {
-            Some(tally) => tally.count,
-            None => 999,
-        },
-        Err(fault) => fault.number() as u32,
-    }
+    count_routes(source, start, &mut sheet)?;
+    Ok(sheet.read(target).map(|tally| tally.count))
 }
 
-/// The least cost at a weight; a number that no test expects where there is none.
-pub(crate) fn least<S: Source>(source: &S, target: usize, a: i32, b: i32) -> i64 {
-    let Ok(found) = least_cost(source, 0, target, Weight { a, b }) else {
-        return 999;
-    };
-    match found {
-        Some(amount) => amount.units,
-        None => 999,
-    }
-}
-
-/// The number of the fault, or 0.
-pub(crate) fn refusal(answer: Result<(), Fault>) -> u8 {
-    match answer {
-        Ok(()) => 0,
-        Err(fault) => fault.number(),
-    }
+/// The least cost from node 0 at a weight; none where no route leads to the target.
+pub(crate) fn least<S: Source>(
+    source: &S,
+    target: usize,
+    a: i32,
+    b: i32,
+) -> Result<Option<i64>, Fault> {
+    let found = least_cost(source, 0, target, Weight { a, b })?;
+    Ok(found.map(|amount| amount.units))
 }
 
 /// An open cell with this extra.
-pub(crate) fn open(price: i32, pressure: i32) -> Cell {
+pub fn open(price: i32, pressure: i32) -> Cell
+    ensures { result ≡ opened price pressure }
+{
     Cell::Open(Size { price, pressure })
 }
 
 /// The grid of two rows of two cells, where the cell to the right of the first costs five more.
-pub(crate) fn small_grid() -> Grid {
-    let mut grid = Grid::new();
+pub fn small_grid() -> Grid
+    ensures { grid_network result ≡ grid 2 2 small_cells small_sizes }
+{
     let cells = [open(0, 0), open(5, 0), open(0, 0), open(0, 0)];
     let sizes = [
         Size {
@@ -60,6 +57,7 @@ pub(crate) fn small_grid() -> Grid {
             pressure: 1,
         },
     ];
+    let mut grid = Grid::new();
     let _ = grid.fill(2, 2, &cells, &sizes);
     grid
 }
@@ -67,24 +65,25 @@ pub(crate) fn small_grid() -> Grid {
 #[cfg(test)]
 mod tests {
     use super::*;
+    use closings::Closing;
 
     #[test]
     fn grids_are_crossed(rt: HostRuntime) {
         let grid = small_grid();
-        assert_eq!(rt; routes(&grid, 0, 3), 8);
-        assert_eq!(rt; routes(&grid, 0, 2), 2);
-        assert_eq!(rt; routes(&grid, 1, 2), 0);
-        assert_eq!(rt; least(&grid, 3, 1, 0), 2);
-        assert_eq!(rt; least(&grid, 3, 0, 1), 2);
-        assert_eq!(rt; least(&grid, 3, -1, 0), -11);
-        assert_eq!(rt; least(&grid, 3, 0, -1), -8);
+        assert_eq!(rt; routes(&grid, 0, 3), Ok(Some(8)));
+        assert_eq!(rt; routes(&grid, 0, 2), Ok(Some(2)));
+        assert_eq!(rt; routes(&grid, 1, 2), Ok(Some(0)));
+        assert_eq!(rt; least(&grid, 3, 1, 0), Ok(Some(2)));
+        assert_eq!(rt; least(&grid, 3, 0, 1), Ok(Some(2)));
+        assert_eq!(rt; least(&grid, 3, -1, 0), Ok(Some(-11)));
+        assert_eq!(rt; least(&grid, 3, 0, -1), Ok(Some(-8)));
         let mut closing = Closing::over(grid);
-        assert_eq!(rt; refusal(closing.close(1)), 0);
-        assert_eq!(rt; routes(&closing, 0, 3), 4);
-        assert_eq!(rt; least(&closing, 3, -1, 0), -6);
-        assert_eq!(rt; routes(&closing, 0, 1), 0);
-        assert_eq!(rt; routes(&closing, 1, 1), 1);
-        assert_eq!(rt; routes(&closing.into_below(), 0, 3), 8);
+        assert_eq!(rt; closing.close(1), Ok(()));
+        assert_eq!(rt; routes(&closing, 0, 3), Ok(Some(4)));
+        assert_eq!(rt; least(&closing, 3, -1, 0), Ok(Some(-6)));
+        assert_eq!(rt; routes(&closing, 0, 1), Ok(Some(0)));
+        assert_eq!(rt; routes(&closing, 1, 1), Ok(Some(1)));
+        assert_eq!(rt; routes(&closing.into_below(), 0, 3), Ok(Some(8)));
     }
 
     #[test]
@@ -105,14 +104,14 @@ mod tests {
             },
         ];
         let mut grid = Grid::new();
-        assert_eq!(rt; refusal(grid.fill(128, 1, &cells, &one)), 0);
-        assert_eq!(rt; routes(&grid, 0, 127), 1);
-        assert_eq!(rt; least(&grid, 127, 1, 1), 381);
-        assert_eq!(rt; refusal(grid.fill(1, 128, &cells, &two)), 0);
-        assert_eq!(rt; routes(&grid, 0, 127), 1_000_000);
-        assert_eq!(rt; least(&grid, 127, 1, 0), 127);
-        assert_eq!(rt; refusal(grid.fill(16, 8, &cells, &one)), 0);
-        assert_eq!(rt; routes(&grid, 0, 127), 170_544);
+        assert_eq!(rt; grid.fill(128, 1, &cells, &one), Ok(()));
+        assert_eq!(rt; routes(&grid, 0, 127), Ok(Some(1)));
+        assert_eq!(rt; least(&grid, 127, 1, 1), Ok(Some(381)));
+        assert_eq!(rt; grid.fill(1, 128, &cells, &two), Ok(()));
+        assert_eq!(rt; routes(&grid, 0, 127), Ok(Some(1_000_000)));
+        assert_eq!(rt; least(&grid, 127, 1, 0), Ok(Some(127)));
+        assert_eq!(rt; grid.fill(16, 8, &cells, &one), Ok(()));
+        assert_eq!(rt; routes(&grid, 0, 127), Ok(Some(170_544)));
     }
 
     #[test]
@@ -122,15 +121,15 @@ mod tests {
             pressure: 2,
         }];
         let mut grid = Grid::new();
-        assert_eq!(rt; refusal(grid.fill(2, 2, &[Cell::Closed; 4], &one)), 0);
-        assert_eq!(rt; routes(&grid, 0, 0), 1);
-        assert_eq!(rt; routes(&grid, 0, 3), 0);
+        assert_eq!(rt; grid.fill(2, 2, &[Cell::Closed; 4], &one), Ok(()));
+        assert_eq!(rt; routes(&grid, 0, 0), Ok(Some(1)));
+        assert_eq!(rt; routes(&grid, 0, 3), Ok(Some(0)));
         let start_closed = [Cell::Closed, open(0, 0), open(0, 0), open(0, 0)];
-        assert_eq!(rt; refusal(grid.fill(2, 2, &start_closed, &one)), 0);
-        assert_eq!(rt; routes(&grid, 0, 0), 1);
-        assert_eq!(rt; routes(&grid, 0, 1), 0);
-        assert_eq!(rt; routes(&grid, 0, 3), 0);
-        assert_eq!(rt; routes(&grid, 1, 3), 1);
+        assert_eq!(rt; grid.fill(2, 2, &start_closed, &one), Ok(()));
+        assert_eq!(rt; routes(&grid, 0, 0), Ok(Some(1)));
+        assert_eq!(rt; routes(&grid, 0, 1), Ok(Some(0)));
+        assert_eq!(rt; routes(&grid, 0, 3), Ok(Some(0)));
+        assert_eq!(rt; routes(&grid, 1, 3), Ok(Some(1)));
     }
 
     #[test]
@@ -141,43 +140,43 @@ mod tests {
             price: 5_000,
             pressure: -5_000,
         }];
-        let far = [
-            Size {
-                price: 5_001,
-                pressure: 0,
-            },
-            Size {
-                price: 5_001,
-                pressure: 0,
-            },
-        ];
-        let twins = [
-            Size {
-                price: 1,
-                pressure: 1,
-            },
-            Size {
-                price: 1,
-                pressure: 1,
-            },
-        ];
+        let far = [Size {
+            price: 5_001,
+            pressure: 0,
+        }; 2];
+        let twins = [Size {
+            price: 1,
+            pressure: 1,
+        }; 2];
         let nine = [Size {
             price: 1,
             pressure: 1,
         }; 9];
-        assert_eq!(rt; refusal(grid.fill(0, 1, &cells[0..0], &one)), 9);
-        assert_eq!(rt; refusal(grid.fill(1, 0, &cells[0..0], &one)), 9);
-        assert_eq!(rt; refusal(grid.fill(2, 65, &cells, &one)), 9);
-        assert_eq!(rt; refusal(grid.fill(1, 2, &cells[0..1], &one)), 9);
-        assert_eq!(rt; refusal(grid.fill(1, 2, &cells[0..3], &far)), 9);
-        assert_eq!(rt; refusal(grid.fill(1, 1, &cells[0..1], &one[0..0])), 9);
-        assert_eq!(rt; refusal(grid.fill(1, 1, &cells[0..1], &nine)), 9);
-        assert_eq!(rt; refusal(grid.fill(1, 1, &cells[0..1], &far)), 7);
-        assert_eq!(rt; refusal(grid.fill(1, 1, &[open(0, -5_001)], &twins)), 7);
-        assert_eq!(rt; refusal(grid.fill(1, 1, &cells[0..1], &twins)), 12);
-        assert_eq!(rt; routes(&grid, 0, 3), 8);
-        assert_eq!(rt; refusal(grid.fill(1, 1, &[open(-5_000, 5_000)], &one)), 0);
-        assert_eq!(rt; routes(&grid, 0, 0), 1);
+        assert_eq!(rt; grid.fill(0, 1, &cells[0..0], &one), Err(Fault::GridShape));
+        assert_eq!(rt; grid.fill(1, 0, &cells[0..0], &one), Err(Fault::GridShape));
+        assert_eq!(rt; grid.fill(2, 65, &cells, &one), Err(Fault::GridShape));
+        assert_eq!(rt; grid.fill(1, 2, &cells[0..1], &one), Err(Fault::GridShape));
+        assert_eq!(rt; grid.fill(1, 2, &cells[0..3], &far), Err(Fault::GridShape));
+        assert_eq!(rt;
+            grid.fill(1, 1, &cells[0..1], &one[0..0]),
+            Err(Fault::GridShape)
+        );
+        assert_eq!(rt; grid.fill(1, 1, &cells[0..1], &nine), Err(Fault::GridShape));
+        assert_eq!(rt;
+            grid.fill(1, 1, &cells[0..1], &far),
+            Err(Fault::OutOfRange(0))
+        );
+        assert_eq!(rt;
+            grid.fill(1, 1, &[open(0, -5_001)], &twins),
+            Err(Fault::OutOfRange(0))
+        );
+        assert_eq!(rt;
+            grid.fill(1, 1, &cells[0..1], &twins),
+            Err(Fault::EqualChoices(0))
+        );
+        assert_eq!(rt; routes(&grid, 0, 3), Ok(Some(8)));
+        assert_eq!(rt; grid.fill(1, 1, &[open(-5_000, 5_000)], &one), Ok(()));
+        assert_eq!(rt; routes(&grid, 0, 0), Ok(Some(1)));
     }
 
     #[test]
@@ -188,21 +187,21 @@ mod tests {
             pressure: 2,
         }];
         let mut grid = Grid::new();
-        assert_eq!(rt; refusal(grid.fill(128, 1, &cells, &one)), 0);
+        assert_eq!(rt; grid.fill(128, 1, &cells, &one), Ok(()));
         let mut closing = Closing::over(grid);
         for v in 100..116usize {
-            assert_eq!(rt; refusal(closing.close(v)), 0);
+            assert_eq!(rt; closing.close(v), Ok(()));
         }
-        assert_eq!(rt; refusal(closing.close(128)), 5);
-        assert_eq!(rt; refusal(closing.close(100)), 25);
-        assert_eq!(rt; refusal(closing.close(1)), 26);
-        assert_eq!(rt; routes(&closing, 0, 99), 1);
-        assert_eq!(rt; routes(&closing, 0, 100), 0);
+        assert_eq!(rt; closing.close(128), Err(Fault::BadNode(0)));
+        assert_eq!(rt; closing.close(100), Err(Fault::ClosedAlready));
+        assert_eq!(rt; closing.close(1), Err(Fault::ClosedFull));
+        assert_eq!(rt; routes(&closing, 0, 99), Ok(Some(1)));
+        assert_eq!(rt; routes(&closing, 0, 100), Ok(Some(0)));
         let mut twice = Closing::over(closing);
-        assert_eq!(rt; refusal(twice.close(100)), 0);
-        assert_eq!(rt; refusal(twice.close(1)), 0);
-        assert_eq!(rt; routes(&twice, 0, 99), 0);
-        assert_eq!(rt; routes(&twice, 2, 99), 1);
-        assert_eq!(rt; routes(&twice, 116, 127), 1);
+        assert_eq!(rt; twice.close(100), Ok(()));
+        assert_eq!(rt; twice.close(1), Ok(()));
+        assert_eq!(rt; routes(&twice, 0, 99), Ok(Some(0)));
+        assert_eq!(rt; routes(&twice, 2, 99), Ok(Some(1)));
+        assert_eq!(rt; routes(&twice, 116, 127), Ok(Some(1)));
     }
 }
