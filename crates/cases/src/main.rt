@@ -7,16 +7,10 @@ use std::io::Read;
 
 /// Prints the answer to one takeoff.
 fn print_answer(rt: &HostRuntime, takeoff: &[u8]) -> io::Result<()> {
-    let found = match report(takeoff) {
-        Ok(found) => found,
-        Err(fault) => return println!(rt; "{fault}"),
-    };
-    let heading = found.heading;
-    println!(rt; "{heading}")?;
-    for line in found.weighed() {
-        println!(rt; "{line}")?;
+    match report(takeoff) {
+        Ok(found) => print!(rt; "{found}"),
+        Err(fault) => println!(rt; "{fault}"),
     }
-    Ok(())
 }
 
 /// Prints the answers to the takeoffs that the bytes hold, each behind two bytes that say its length.

@@ -7,7 +7,7 @@ use std::fmt;
 use std::fmt::{Display, Formatter};
 
 /// Writes each item between the two texts.
-pub(crate) fn write_each<T: Display, W: fmt::Write>(
+pub fn write_each<T: Display, W: fmt::Write>(
     before: &str,
     items: &[T],
     after: &str,

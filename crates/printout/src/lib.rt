@@ -10,6 +10,7 @@ mod summary;
 mod weight_line;
 
 pub use corner_line::CornerLine;
+pub use each::write_each;
 pub use entry::Entry;
 pub use heading::Heading;
 pub use route_line::RouteLine;

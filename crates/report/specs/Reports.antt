@@ -10,7 +10,7 @@ use Rattle.sources.specs.Tables.{listed}
 use Rattle.takeoff.specs.declared.header.Header.{Header}
 use Rattle.takeoff.specs.Answers.{Answered}
 use Rattle.takeoff.specs.Takeoff.{Contents, Complete, Lawful, encode, nodes_of, arcs_of, start_of, target_of, weights_of}
-use Rattle.report.specs.declared.heading.Heading.{Heading}
+use Rattle.printout.specs.declared.heading.Heading.{Heading}
 use Rattle.report.specs.declared.line.Line.{Line}
 use Rattle.report.specs.declared.summary.Report.{Report}
 use Rattle.report.specs.Lines.{Lined}

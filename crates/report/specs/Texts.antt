@@ -1,14 +1,8 @@
 -- How the lines of a report are written. Assumes nothing.
-use Rattle.std.specs.Prelude.{ℕ, List, ◌++◌, Some, None, codes, decimal, Option}
+use Rattle.std.specs.Prelude.{ℕ, List, ◌++◌, Some, None, codes, Option}
 use Rattle.std.specs.Fmt.{signed_decimal}
 use Rattle.kinds.specs.declared.amount.Amount.{Amount}
-use Rattle.report.specs.declared.heading.Heading.{Heading}
 use Rattle.report.specs.declared.line.Line.{Line}
-
-abbrev pub heading_text : Heading → List ℕ
-heading_text h =
-    codes "nodes " ++ (decimal h.nodes ++ (codes " segments " ++ (decimal h.segments
-    ++ (codes " start " ++ (decimal h.start ++ (codes " target " ++ decimal h.target))))))
 
 -- the least cost, or that there is none
 abbrev pub least_text : Option Amount → List ℕ

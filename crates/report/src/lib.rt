@@ -1,13 +1,12 @@
 //! From the bytes of a takeoff to what is printed of it.
 #![tactic(auto)]
 
-mod heading;
 mod line;
 mod lines;
 mod reckoning;
 mod summary;
 
-pub use heading::Heading;
 pub use line::Line;
+pub use printout::Heading;
 pub use reckoning::report;
 pub use summary::Report;

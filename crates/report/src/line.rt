@@ -8,8 +8,8 @@ use std::fmt;
 use std::fmt::{Display, Formatter};
 
 /// A line of a report: a weight of the takeoff, and the least weighted cost there; none where no route leads to the
-/// target.
-#[derive(Clone, Copy)]
+/// target. The default has none.
+#[derive(Clone, Copy, Default)]
 pub struct Line {
     pub weight: Weight,
     pub least: Option<Amount>,

@@ -17,18 +17,12 @@ pub(crate) fn lines_at<S: Source>(
     requires { length weights.now ≤ 16 }
     ensures { MatchResult result (λ lines. Lined (S.Source.network source.now) start target weights.now lines (length weights.now)) (λ f. Spoiled (S.Source.network source.now) start target weights.now f) }
 {
-    let mut lines = [Line {
-        weight: Weight { a: 0, b: 0 },
-        least: None,
-    }; 16];
+    let mut lines = [Line::default(); 16];
     for (i, weight) in weights.iter().enumerate() {
-        match least_cost(source, start, target, *weight) {
-            Ok(least) => lines[i] = Line {
-                weight: *weight,
-                least,
-            },
-            Err(fault) => return Err(fault),
-        }
+        lines[i] = Line {
+            weight: *weight,
+            least: least_cost(source, start, target, *weight)?,
+        };
     }
     Ok(lines)
 }

@@ -1,28 +1,17 @@
 //! Working out a report.
-ghost use Rattle.std.specs.Prelude.{◌≡◌, ◌<◌, ◌≤◌, length, take, MatchResult};
+ghost use Rattle.std.specs.Prelude.{◌≡◌, ◌<◌, ◌≤◌, length, MatchResult};
 ghost use Rattle.std.specs.List.{AllByRecursion};
 ghost use Rattle.network.specs.Costs.{LawfulWeight};
 ghost use Rattle.sources.specs.Filling.{Accepted};
 ghost use Rattle.sources.specs.Tables.{listed};
-ghost use Rattle.report.specs.Lines.{Lined};
-ghost use Rattle.report.specs.Reports.{Reported, Told, heading_of};
+ghost use Rattle.report.specs.Reports.{Reported, Told};
 
-use crate::heading::Heading;
-use crate::line::Line;
 use crate::lines::lines_at;
 use crate::summary::Report;
-use network::{Fault, Record, Size, Weight};
+use network::{Fault, Record, Weight};
+use printout::Heading;
 use sources::Table;
 use takeoff::{Header, read};
-
-impl Report {
-    /// The lines of the takeoff's weights, in their order.
-    pub fn weighed(&self) -> &[Line]
-        ensures { result.now ≡ take self.now.count self.now.lines }
-    {
-        &self.lines[0..self.count]
-    }
-}
 
 /// The report of a lawful takeoff.
 fn reckon(header: Header, records: &[Record], weights: &[Weight]) -> Result<Report, Fault>
@@ -52,19 +41,12 @@ fn reckon(header: Header, records: &[Record], weights: &[Weight]) -> Result<Repo
 pub fn report(bytes: &[u8]) -> Result<Report, Fault>
     ensures reports_the_takeoff { Reported bytes.now result }
 {
-    let blank = Record {
-        tail: 0,
-        head: 0,
-        count: 0,
-        sizes: [Size {
-            price: 0,
-            pressure: 0,
-        }; 8],
-    };
-    let mut records = [blank; 1024];
-    let mut weights = [Weight { a: 0, b: 0 }; 16];
+    let mut records = [Record::default(); 1024];
+    let mut weights = [Weight::default(); 16];
     let header = read(bytes, &mut records, &mut weights)?;
-    let segments = header.segments;
-    let count = header.weights;
-    reckon(header, &records[0..segments], &weights[0..count])
+    reckon(
+        header,
+        &records[..header.segments],
+        &weights[..header.weights],
+    )
 }

@@ -1,29 +1,19 @@
 //! Prints what a takeoff on standard input comes to.
 #![tactic(auto)]
 
-use report::{Report, report};
+use report::report;
 use std::io;
 use std::io::Read;
 
 /// How many bytes of the input are read; further ones are not looked at.
 const LIMIT: u64 = 40_000;
 
-/// Prints the heading and the line of each weight.
-fn print_report(rt: &HostRuntime, found: &Report) -> io::Result<()> {
-    let heading = found.heading;
-    println!(rt; "{heading}")?;
-    for line in found.weighed() {
-        println!(rt; "{line}")?;
-    }
-    Ok(())
-}
-
 /// Reads the input, and prints its report or the one line that refuses it.
 fn answer(rt: &HostRuntime) -> io::Result<()> {
     let mut bytes = Vec::new(rt.alloc());
     rt.stdin().take(LIMIT).read_to_end(&mut bytes)?;
     match report(&bytes) {
-        Ok(found) => print_report(rt, &found),
+        Ok(found) => print!(rt; "{found}"),
         Err(fault) => println!(rt; "{fault}"),
     }
 }
