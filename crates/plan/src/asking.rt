@@ -2,7 +2,7 @@
 ghost use Rattle.std.specs.Prelude.{◌≡◌, true, MatchResult};
 ghost use Rattle.plan.specs.Answers.{Refused, CountAnswer, CornerAnswer, ConeAnswer, CheapestAnswer};
 ghost use Rattle.plan.specs.Lists.{Held};
-ghost use Rattle.plan.specs.Standing.{progress, Stands};
+ghost use Rattle.plan.specs.Standing.{progress};
 
 use crate::plan::Plan;
 use network::{Cost, Fault, Ray, Weight};
@@ -35,12 +35,8 @@ impl<S: Source> Plan<S> {
     /// The number of corners of node `v`: 0 where no route leads there. Refuses with 5 where there is no such node, with
     /// 20 where there is no start and with 22 where the node is not settled.
     pub fn count(&self, v: usize) -> Result<usize, Fault>
-        ensures answers { CountAnswer (S.Source.network self.now.source) (progress self.now.state) v result }
-
-        // Every plan stands. The type keeps that; callers learn it here.
-        ensures plan_stands { Stands (S.Source.network self.now.source) self.now.state }
+        ensures { CountAnswer (S.Source.network self.now.source) (progress self.now.state) v result }
     {
-        let _ = &self.state;
         let list = self.held(v, true)?;
         Ok(list.count())
     }

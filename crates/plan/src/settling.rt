@@ -3,7 +3,7 @@ ghost use Rattle.std.specs.Prelude.{◌≡◌};
 ghost use Rattle.plan.specs.Answers.{SettleAnswer};
 ghost use Rattle.plan.specs.Changes.{Advanced};
 ghost use Rattle.plan.specs.Lists.{NextList};
-ghost use Rattle.plan.specs.Standing.{progress};
+ghost use Rattle.plan.specs.Standing.{progress, Stands};
 
 use crate::plan::Plan;
 use network::Fault;
@@ -36,6 +36,9 @@ impl<S: Source> Plan<S> {
         ensures keeps_its_source { self.new.source ≡ self.old.source }
         ensures replaces_one_list { Advanced self.old.state result self.new.state }
         ensures answers { SettleAnswer (S.Source.network self.old.source) (progress self.old.state) result }
+
+        // Every plan stands. Its type keeps that, and callers learn it here and of `start`.
+        ensures plan_stands { Stands (S.Source.network self.new.source) self.new.state }
     {
         let list = self.next_list()?;
         let v = self.state.settled;

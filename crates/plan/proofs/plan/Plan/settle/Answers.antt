@@ -23,4 +23,5 @@ returns g c =
           subst (λ (x : PlanParts _). (record { start = σ.start; settled = σ.settled + 1 } ≡ advanced (progress x.state)) × ((list : Polygon) × (set σ.lists σ.settled c.in_ok-list.list ≡ set x.state.lists x.state.settled list)))
           c.self.view_is (refl, (c.in_ok-list.list, refl));
       answers = found_settles _ (g.S.Source.ruled c.args.self.now.source) (progress c.args.self.now.state) c.in_ok-list.list c.in_ok-list.ensures;
+      plan_stands = invariant_of-self g c;
     }
