@@ -1,5 +1,5 @@
 -- What a plan answers of the target that it has settled, said of the target's corner list. Assumes nothing.
-use Rattle.std.proofs.Common.{◌≡◌, ℕ, ◌+◌, ◌<◌, List, length, take, drop, Some, Ok, Err, sym, ap, ◌∙◌, subst, inl, inr, arith}
+use Rattle.std.proofs.Common.{◌≡◌, ℕ, ◌+◌, ◌<◌, ◌≤◌, List, length, take, drop, Some, Ok, Err, sym, ap, ◌∙◌, subst, inl, inr, arith}
 use Rattle.std.proofs.lemmas.List.{take_at}
 use Rattle.network.specs.declared.fault.Fault.{Fault}
 use Rattle.network.specs.declared.fault.Place.TheVariants.{At}
@@ -12,13 +12,18 @@ use Rattle.corners.specs.CornerLists.{CornersOf}
 use Rattle.corners.proofs.OneList.{one_corner_list}
 use Rattle.sources.specs.declared.table.Table.{Table}
 use Rattle.takeoff.specs.declared.header.Header.{Header}
-use Rattle.plan.specs.declared.plan.Plan.{Plan}
-use Rattle.plan.specs.Answers.{Settled, Refused, NoNode, BadWeight, NotStarted, NotSettled, NoCorner, RouteTo, CountAnswer, CornerAnswer, ConeAnswer, RouteAnswer}
+use Rattle.plan.specs.PlanParts.{PlanParts}
+use Rattle.plan.specs.Answers.{Settled, Refused, SettleRefused, NoStart, AllSettled, Misfit, NoNode, BadWeight, NotStarted, NotSettled, NoCorner, RouteTo, CountAnswer, CornerAnswer, ConeAnswer, RouteAnswer}
 use Rattle.plan.specs.Progress.{Progress}
 use Rattle.plan.specs.Standing.{progress}
-use Rattle.corner_report.specs.Planned.{Planned, target_list}
+use Rattle.polygons.specs.Fits.{hulls}
+use Rattle.runs.specs.Runs.{Stops}
+use Rattle.corners.specs.Passing.{EveryRun, StoppedBy}
+use Rattle.sources.specs.Tables.{table_network}
+use Rattle.corner_report.specs.Planned.{Planned, SettledTo, target_list}
+use Rattle.corner_report.specs.Reports.{Misfits}
 
-module _ (N : Network) (h : Header) (p : Plan Table) (planned : Planned N h p) where
+module _ (N : Network) (h : Header) (p : PlanParts Table) (planned : Planned N h p) where
   started_at : p.state.start ≡ Some h.start
   started_at = ap (λ (q : Progress). q.start) planned.settled.so_far
 
@@ -68,3 +73,29 @@ module _ (N : Network) (h : Header) (p : Plan Table) (planned : Planned N h p) w
         let x = at_list _ answer in
         subst (RouteTo N h.start h.target (target_list h p) k)
         (sym (ap (take n) x.written ∙ take_at x.route (drop n old) n x.counted)) x.to_corner
+
+-- where a plan that has not passed the target refuses to settle, a result up to the target does not fit
+pub misfits_there : (N : Network) (h : Header) (p : PlanParts Table) (v : ℕ) → SettledTo N h.start p v → v ≤ h.target → h.target < N.nodes
+    → (f : Fault) → SettleRefused (table_network p.source) (progress p.state) f → Misfits N h.start h.target f
+misfits_there N h p v settled up inside f refused = by_case (subst (λ (M : Network). SettleRefused M (progress p.state) f) settled.source_is refused)
+  where
+    started_here : p.state.start ≡ Some h.start
+    started_here = ap (λ (q : Progress). q.start) settled.so_far
+
+    settled_here : p.state.settled ≡ v
+    settled_here = ap (λ (q : Progress). q.settled) settled.so_far
+
+    by_case : SettleRefused N (progress p.state) f → Misfits N h.start h.target f
+    by_case (NoStart is none) = let one = started_here in let z : ◌≡◌ {A = ℕ} 0 1 = cc in absurd (omega arith)
+    by_case (AllSettled is s started all) = absurd (omega (arith, settled_here))
+    by_case (Misfit s e st is started low stops every) =
+        let same : s ≡ h.start = let one = started_here in cc in
+        record {
+          node = p.state.settled;
+          segment = e;
+          stage = st;
+          is = is;
+          up_to = omega (arith, settled_here);
+          stops = subst (λ t. Stops hulls N t p.state.settled e st) same stops;
+          as_every_run = subst (λ t. EveryRun N t (StoppedBy f)) same every;
+        }

@@ -12,7 +12,7 @@ use Rattle.network.specs.Records.{Counted}
 use Rattle.sources.specs.Filling.{Accepted}
 use Rattle.sources.specs.Listed.{entry}
 use Rattle.sources.specs.Tables.{listed, table_network}
-use Rattle.plan.specs.declared.plan.Plan.{Plan}
+use Rattle.plan.specs.PlanParts.{PlanParts}
 use Rattle.sources.specs.declared.table.Table.{Table}
 use Rattle.takeoff.specs.declared.header.Header.{Header}
 use Rattle.takeoff.specs.Answers.{Holds, FrontCounted}
@@ -85,11 +85,11 @@ module _ (bytes : List ℕ) (c : Contents) (whole : Complete c) (lawful : Lawful
       }
 
 -- a plan over a network is one over the network of its own source
-pub over_own : (N : Network) (h : Header) (p : Plan Table) → Planned N h p → Planned (table_network p.source) h p
+pub over_own : (N : Network) (h : Header) (p : PlanParts Table) → Planned N h p → Planned (table_network p.source) h p
 over_own N h p planned = subst (λ (M : Network). Planned M h p) (sym planned.settled.source_is) planned
 
 -- the entries and lines of a plan are those of a report
-pub answered : (N M : Network) → M ≡ N → (h : Header) (p : Plan Table) → Planned M h p → (weights : List Weight) (x : Report)
+pub answered : (N M : Network) → M ≡ N → (h : Header) (p : PlanParts Table) → Planned M h p → (weights : List Weight) (x : Report)
     → x.corners ≡ length (target_list h p) → Entered M h (target_list h p) x.entries x.corners
     → x.weights ≡ length weights → Lined M h (target_list h p) weights x.lines (length weights)
     → Answers N h.start h.target weights x

@@ -8,7 +8,7 @@ use Rattle.sources.specs.Tables.{listed, table_network}
 use Rattle.sources.specs.declared.table.Table.{Table}
 use Rattle.takeoff.specs.declared.header.Header.{Header}
 use Rattle.traceback.specs.Tracing.{list_of}
-use Rattle.plan.specs.declared.plan.Plan.{Plan}
+use Rattle.plan.specs.PlanParts.{PlanParts}
 use Rattle.plan.specs.Progress.{Progress}
 use Rattle.plan.specs.Standing.{progress, Stands}
 use Rattle.printout.specs.declared.entry.Entry.{Entry}
@@ -21,18 +21,18 @@ abbrev pub settled_to : ℕ → ℕ → Progress
 settled_to s n = record { start = Some s; settled = n }
 
 -- the plan stands over N, and has settled n nodes from s
-pub record SettledTo (N : Network) (s : ℕ) (p : Plan Table) (n : ℕ) : Type 0 where
+pub record SettledTo (N : Network) (s : ℕ) (p : PlanParts Table) (n : ℕ) : Type 0 where
   pub source_is : table_network p.source ≡ N
   pub stands : Stands N p.state
   pub so_far : progress p.state ≡ settled_to s n
 
 -- the plan has settled the target of the header from its start
-pub record Planned (N : Network) (h : Header) (p : Plan Table) : Type 0 where
+pub record Planned (N : Network) (h : Header) (p : PlanParts Table) : Type 0 where
   pub inside : h.target < N.nodes
   pub settled : SettledTo N h.start p (h.target + 1)
 
 -- the corner list of the target
-abbrev pub target_list : Header → Plan Table → List Pt
+abbrev pub target_list : Header → PlanParts Table → List Pt
 target_list h p = list_of p.state.lists h.target
 
 module _ (N : Network) (h : Header) (list : List Pt) where

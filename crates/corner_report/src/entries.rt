@@ -4,7 +4,7 @@ ghost use Rattle.sources.specs.Tables.{table_network};
 ghost use Rattle.corner_report.specs.Planned.{Entered, Planned, target_list};
 ghost use Rattle.corner_report.specs.Reports.{Tells};
 
-use network::{Cost, Fault, Ray, Step};
+use network::{Fault, Step};
 use plan::Plan;
 use printout::{CornerLine, Entry, RouteLine};
 use sources::Table;
@@ -17,10 +17,7 @@ fn entry(plan: &Plan<Table>, header: &Header, k: usize) -> Result<Entry, Fault>
 {
     let cost = plan.corner(header.target, k)?;
     let (first, second) = plan.cone(header.target, k)?;
-    let mut steps = [Step {
-        segment: 0,
-        choice: 0,
-    }; 128];
+    let mut steps = [Step::default(); 128];
     let count = plan.route(header.target, k, &mut steps)?;
     Ok(Entry {
         corner: CornerLine {
@@ -43,25 +40,8 @@ pub(crate) fn entries_of(plan: &Plan<Table>, header: &Header) -> Result<(usize, 
     ensures { MatchResult result (λ x. (length x.1 ≡ 32) × (x.0 ≡ length (target_list header.now plan.now)) × Entered (table_network plan.now.source) header.now (target_list header.now plan.now) x.1 x.0) (λ _. ⊥) }
 {
     let count = plan.count(header.target)?;
-    let nothing = Ray { a: 0, b: 0 };
-    let corner = CornerLine {
-        number: 0,
-        cost: Cost {
-            price: 0,
-            pressure: 0,
-        },
-        first: nothing,
-        second: nothing,
-    };
-    let route = RouteLine {
-        number: 0,
-        count: 0,
-        steps: [Step {
-            segment: 0,
-            choice: 0,
-        }; 128],
-    };
-    let mut entries = [Entry { corner, route }; 32];
+    let mut entries = [Entry::default(); 32];
+    // A corner is asked for by its number, which is its place here too.
     for k in 0..count {
         entries[k] = entry(plan, header, k)?;
     }

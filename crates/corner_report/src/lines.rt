@@ -20,12 +20,8 @@ fn best(plan: &Plan<Table>, header: &Header, weight: Weight) -> Result<Option<Ch
 {
     match plan.cheapest(header.target, weight) {
         Ok(best) => Ok(Some(best)),
-        Err(fault) => {
-            if fault.number() == 23 {
-                return Ok(None);
-            }
-            Err(fault)
-        }
+        Err(Fault::NoCorner) => Ok(None),
+        Err(fault) => Err(fault),
     }
 }
 
@@ -39,10 +35,7 @@ pub(crate) fn lines_of(
     requires weighed { (length weights.now ≤ 16) × (AllByRecursion LawfulWeight weights.now) }
     ensures { MatchResult result (λ lines. Lined (table_network plan.now.source) header.now (target_list header.now plan.now) weights.now lines (length weights.now)) (λ _. ⊥) }
 {
-    let mut lines = [WeightLine {
-        weight: Weight { a: 0, b: 0 },
-        best: None,
-    }; 16];
+    let mut lines = [WeightLine::default(); 16];
     for (i, weight) in weights.iter().enumerate() {
         lines[i] = WeightLine {
             weight: *weight,

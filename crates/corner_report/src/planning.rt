@@ -16,15 +16,9 @@ pub(crate) fn planned(table: Table, header: &Header) -> Result<Plan<Table>, Faul
     ensures { MatchResult result (λ p. Planned (table_network table) header.now p) (λ f. Misfits (table_network table) header.now.start header.now.target f) }
 {
     let mut plan = Plan::new(table);
-    match plan.start(header.start) {
-        Ok(()) => {}
-        Err(fault) => return Err(fault),
-    }
+    plan.start(header.start)?;
     for _v in 0..header.target + 1 {
-        match plan.settle() {
-            Ok(()) => {}
-            Err(fault) => return Err(fault),
-        }
+        plan.settle()?;
     }
     Ok(plan)
 }

@@ -10,7 +10,7 @@ ghost use Rattle.corner_report.specs.Reports.{Misfits, Reported};
 use crate::entries::entries_of;
 use crate::lines::lines_of;
 use crate::planning::planned;
-use network::{Fault, Record, Size, Weight};
+use network::{Fault, Record, Weight};
 use printout::{Heading, Report};
 use sources::Table;
 use takeoff::{Header, read};
@@ -49,17 +49,8 @@ fn reckon(header: Header, records: &[Record], weights: &[Weight]) -> Result<Repo
 pub fn report(bytes: &[u8]) -> Result<Report, Fault>
     ensures reports_the_takeoff { Reported bytes.now result }
 {
-    let blank = Record {
-        tail: 0,
-        head: 0,
-        count: 0,
-        sizes: [Size {
-            price: 0,
-            pressure: 0,
-        }; 8],
-    };
-    let mut records = [blank; 1024];
-    let mut weights = [Weight { a: 0, b: 0 }; 16];
+    let mut records = [Record::default(); 1024];
+    let mut weights = [Weight::default(); 16];
     let header = read(bytes, &mut records, &mut weights)?;
     let segments = header.segments;
     let count = header.weights;

@@ -7,7 +7,7 @@ use Rattle.corner_report.proofs.entries.entries_of.Goals as goal
 
 pub loop-k-init : goal.loop-k-init
 loop-k-init c =
-    let counted = at_list (table_network c.args.plan.now.source) c.args.header.now c.args.plan.now c.requires _ (c.in_ok-count.ensures c.requires.settled.stands) in
+    let counted = at_list (table_network c.args.plan.now.source) c.args.header.now c.args.plan.now c.requires _ c.in_ok-count.ensures in
     let few = few_corners c.args.plan.now.state.lists c.args.header.now.target in
     (counted, omega (arith, counted), search rules, λ k l. absurd (omega arith))
 
