@@ -1,10 +1,10 @@
 -- How the lines of a report are written. Assumes nothing.
 use Rattle.std.specs.Prelude.{ℕ, List, ◌++◌, Some, None, codes, decimal, Option}
-use Rattle.std.specs.Fmt.{signed_decimal}
 use Rattle.std.specs.List.{flat_map}
 use Rattle.network.specs.declared.step.Step.{Step}
-use Rattle.network.specs.Texts.{cost_text, ray_text, step_text as written}
+use Rattle.network.specs.Texts.{cost_text, ray_text, step_text as step_written, weight_text as weight_written}
 use Rattle.polygons.specs.declared.cheapest.Cheapest.{Cheapest}
+use Rattle.polygons.specs.Texts.{cheapest_text}
 use Rattle.printout.specs.declared.corner_line.CornerLine.{CornerLine}
 use Rattle.printout.specs.declared.entry.Entry.{Entry}
 use Rattle.printout.specs.declared.heading.Heading.{Heading}
@@ -25,7 +25,7 @@ corner_text c =
 
 -- a step as segment and choice with a point between them, behind a blank
 abbrev pub step_text : Step → List ℕ
-step_text x = codes " " ++ written x
+step_text x = codes " " ++ step_written x
 
 abbrev pub steps_text : List Step → List ℕ
 steps_text = flat_map step_text
@@ -36,11 +36,11 @@ route_text l = (codes "route " ++ decimal l.number) ++ steps_text (route_of l)
 
 -- the least cost and its corner, or that there is none
 abbrev pub best_text : Option Cheapest → List ℕ
-best_text (Some b) = codes " least " ++ (signed_decimal b.least ++ (codes " corner " ++ decimal b.corner))
+best_text (Some b) = codes " " ++ cheapest_text b
 best_text None = codes " none"
 
 abbrev pub weight_text : WeightLine → List ℕ
-weight_text l = codes "weight " ++ (signed_decimal l.weight.a ++ (codes " " ++ (signed_decimal l.weight.b ++ best_text l.best)))
+weight_text l = codes "weight " ++ (weight_written l.weight ++ best_text l.best)
 
 -- the two lines of a corner
 abbrev pub entry_text : Entry → List ℕ

@@ -10,7 +10,7 @@ use std::fmt::{Display, Formatter};
 
 /// A report: the heading, at the front of `entries` one for each of the target's `corners` in their order, and at the
 /// front of `lines` one for each of the takeoff's `weights` in their order.
-#[derive(Clone, Copy)]
+#[derive(Clone, Copy, Debug, PartialEq, Eq)]
 pub struct Report {
     pub heading: Heading,
     // As many places as a node can have corners and a takeoff weights, and how many of them are used, not lists that

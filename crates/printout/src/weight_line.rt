@@ -8,8 +8,8 @@ use std::fmt;
 use std::fmt::{Display, Formatter};
 
 /// A weight of the takeoff, with the least weighted cost there and the lowest corner that has it; none where no route
-/// leads to the target.
-#[derive(Clone, Copy)]
+/// leads to the target. The default has none.
+#[derive(Clone, Copy, Debug, Default, PartialEq, Eq)]
 pub struct WeightLine {
     pub weight: Weight,
     pub best: Option<Cheapest>,
@@ -20,15 +20,10 @@ impl Display for WeightLine {
 
     /// The weight, and its least cost and corner or `none`.
     fn fmt<W: fmt::Write>(&self, f: &mut Formatter<W>) -> fmt::Result {
-        let a = self.weight.a;
-        let b = self.weight.b;
+        let weight = self.weight;
         match self.best {
-            Some(best) => {
-                let least = best.least;
-                let corner = best.corner;
-                write!(f, "weight {a} {b} least {least} corner {corner}")
-            }
-            None => write!(f, "weight {a} {b} none"),
+            Some(best) => write!(f, "weight {weight} {best}"),
+            None => write!(f, "weight {weight} none"),
         }
     }
 }

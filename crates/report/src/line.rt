@@ -9,7 +9,7 @@ use std::fmt::{Display, Formatter};
 
 /// A line of a report: a weight of the takeoff, and the least weighted cost there; none where no route leads to the
 /// target. The default has none.
-#[derive(Clone, Copy, Default)]
+#[derive(Clone, Copy, Debug, Default, PartialEq, Eq)]
 pub struct Line {
     pub weight: Weight,
     pub least: Option<Amount>,
@@ -20,14 +20,10 @@ impl Display for Line {
 
     /// The weight, and its least cost or `none`.
     fn fmt<W: fmt::Write>(&self, f: &mut Formatter<W>) -> fmt::Result {
-        let a = self.weight.a;
-        let b = self.weight.b;
+        let weight = self.weight;
         match self.least {
-            Some(amount) => {
-                let units = amount.units;
-                write!(f, "weight {a} {b} least {units}")
-            }
-            None => write!(f, "weight {a} {b} none"),
+            Some(least) => write!(f, "weight {weight} least {least}"),
+            None => write!(f, "weight {weight} none"),
         }
     }
 }

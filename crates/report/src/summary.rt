@@ -7,7 +7,7 @@ use std::fmt;
 use std::fmt::{Display, Formatter};
 
 /// A report: the heading, and at the front of `lines` one line for each of the takeoff's `count` weights, in their order.
-#[derive(Clone, Copy)]
+#[derive(Clone, Copy, Debug, PartialEq, Eq)]
 pub struct Report {
     pub heading: Heading,
     // As many places as a takeoff can have weights, and how many of them are used, not a list that grows: no call is to
