@@ -2,7 +2,7 @@
 use printout::Entry;
 
 /// The corners of a node in their order, each with its cone and the route to it: the first `count` of `entries`.
-#[derive(Clone, Copy)]
+#[derive(Clone, Copy, Debug, PartialEq, Eq)]
 pub struct Told {
     pub count: usize,
     pub entries: [Entry; 32],

@@ -30,14 +30,12 @@ pub(crate) fn cheapest_at<S: Source + Drop>(
 pub(crate) fn number_of_routes<S: Source>(source: &S, v: usize) -> Result<u32, Fault>
     ensures { AtSample (S.Source.network source.now) v (λ x. result ≡ Ok x.number) }
 {
-    let mut cells = [Tally { count: 0 }; 128];
+    let mut cells = [Tally::default(); 128];
     let mut sheet = Sheet::over(&mut cells);
     count_routes(source, 0, &mut sheet)?;
     if v >= source.nodes() {
         return Err(Fault::BadNode(0));
     }
-    match sheet.read(v) {
-        Some(tally) => Ok(tally.count),
-        None => Err(Fault::BadNode(0)),
-    }
+    let tally = sheet.read(v).ok_or(Fault::BadNode(0))?;
+    Ok(tally.count)
 }

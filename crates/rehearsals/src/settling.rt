@@ -14,15 +14,9 @@ pub(crate) fn settled<S: Source + Drop>(source: S, v: usize) -> Result<Plan<S>, 
         return Err(Fault::BadNode(0));
     }
     let mut plan = Plan::new(source);
-    match plan.start(0) {
-        Ok(()) => {}
-        Err(fault) => return Err(fault),
-    }
+    plan.start(0)?;
     for _u in 0..v + 1 {
-        match plan.settle() {
-            Ok(()) => {}
-            Err(fault) => return Err(fault),
-        }
+        plan.settle()?;
     }
     Ok(plan)
 }

@@ -5,7 +5,7 @@ ghost use Rattle.rehearsals.specs.Telling.{EntrySays, Says};
 
 use crate::answer::Told;
 use crate::settling::settled;
-use network::{Cost, Fault, Ray, Step};
+use network::{Fault, Step};
 use plan::Plan;
 use printout::{CornerLine, Entry, RouteLine};
 use sources::Source;
@@ -17,10 +17,7 @@ fn entry<S: Source>(plan: &Plan<S>, v: usize, k: usize) -> Result<Entry, Fault>
 {
     let cost = plan.corner(v, k)?;
     let (first, second) = plan.cone(v, k)?;
-    let mut steps = [Step {
-        segment: 0,
-        choice: 0,
-    }; 128];
+    let mut steps = [Step::default(); 128];
     let count = plan.route(v, k, &mut steps)?;
     Ok(Entry {
         corner: CornerLine {
@@ -44,25 +41,8 @@ pub(crate) fn told<S: Source + Drop>(source: S, v: usize) -> Result<Told, Fault>
 {
     let plan = settled(source, v)?;
     let count = plan.count(v)?;
-    let nowhere = Ray { a: 0, b: 0 };
-    let corner = CornerLine {
-        number: 0,
-        cost: Cost {
-            price: 0,
-            pressure: 0,
-        },
-        first: nowhere,
-        second: nowhere,
-    };
-    let route = RouteLine {
-        number: 0,
-        count: 0,
-        steps: [Step {
-            segment: 0,
-            choice: 0,
-        }; 128],
-    };
-    let mut entries = [Entry { corner, route }; 32];
+    let mut entries = [Entry::default(); 32];
+    // A corner is asked for by its number, which is its place here too.
     for k in 0..count {
         entries[k] = entry(&plan, v, k)?;
     }

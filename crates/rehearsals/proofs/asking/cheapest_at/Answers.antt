@@ -10,4 +10,4 @@ returns g c x holds same here b is =
     let made = c.in_ok-plan.ensures in
     let back = sym (ap g.S.Source.network made.0) in
     let settled = subst (λ (N : Network). SettledTo N σ (c.args.v + 1)) back made.1 in
-    cheapest_told x holds _ (same ∙ back) c.args.v here σ settled c.args.weight b is c.cheapest.result (c.cheapest.ensures settled.stands)
+    cheapest_told x holds _ (same ∙ back) c.args.v here σ settled c.args.weight b is c.cheapest.result c.cheapest.ensures

@@ -10,7 +10,7 @@ loop-k-init g c =
     let σ = c.in_ok-plan.plan.state in
     let made = c.in_ok-plan.ensures in
     let settled = subst (λ (N : Network). SettledTo N σ (c.args.v + 1)) (sym (ap g.S.Source.network made.0)) made.1 in
-    let answer = c.in_ok-count.ensures settled.stands in (
+    let answer = c.in_ok-count.ensures in (
       few _ c.args.v σ settled c.in_ok-count.count answer,
       refl,
       λ x holds same here. (count_told x holds _ same c.args.v here σ settled c.in_ok-count.count answer, λ k l. absurd (omega arith)),
