@@ -72,7 +72,7 @@ over_out b v e (Some s) q h =
 
 pub into_in : (b : Table) (v k : ℕ) (xs : List (Option Arc)) (q : List Step) (i e : ℕ) → k + i ≡ e → Over b v e (get_or xs i None) q → In q (into b v k xs)
 unfolding into
-into_in b v k [] q i e l h = let w : ◌≡◌ {A = ℕ} 0 1 = cc h.stands in absurd (omega arith)
+into_in b v k [] q i e l h = absurd (cc h.stands)
 into_in b v k (x ∷ xs) q zero e l h = in_left q (over b v k x) (into b v (suc k) xs) (over_in b v k x q (subst (λ n. Over b v n x q) (omega arith) h))
 into_in b v k (x ∷ xs) q (suc i) e l h = in_right q (over b v k x) (into b v (suc k) xs) (into_in b v (suc k) xs q i e (omega arith) h)
 

@@ -13,12 +13,6 @@ use Rattle.algebra.proofs.Membership.{in_left, in_right, in_either}
 use Rattle.algebra.proofs.Enumerates.{step, extended_in, extended_out, into_in, into_out, own_in, own_out}
 use Rattle.algebra.proofs.Once.{not_nil, extended_distinct, within_distinct, below_distinct}
 
-some_same : {X : Type 0} {x y : X} → Some x ≡ Some y → x ≡ y
-some_same h = cc
-
-none_some : {X : Type 0} {x : X} → ◌≡◌ {A = Option X} None (Some x) → ⊥
-none_some h = let z : ◌≡◌ {A = ℕ} 0 1 = cc in absurd (omega arith)
-
 -- what stands in the first m stands in the whole
 taken_at : {X : Type 0} (xs : List (Option X)) (m i : ℕ) (x : X) → get_or (take m xs) i None ≡ Some x → (i < m) × (get_or xs i None ≡ Some x)
 taken_at xs m i x h =
@@ -26,7 +20,7 @@ taken_at xs m i x h =
     (λ low. (low, sym (get_or-take m xs i None low) ∙ h))
     (λ high.
     let past : length (take m xs) ≤ i = rw length-take (omega (arith, high)) in
-    absurd (none_some (sym (get_or_past (take m xs) i None past) ∙ h)))
+    absurd (cc (get_or_past (take m xs) i None past)))
     (below_or_not i m)
   where
     below_or_not : (a b : ℕ) → (a < b) ⊎ (b ≤ a)
@@ -84,7 +78,7 @@ module _ {N : Network} (ruled : Ruled N) (start e : ℕ) (a : Arc) (stands : at 
       record {
         apart = extended_distinct (routes N start a.tail) e (length a.sizes) to_tail.apart;
         every = λ r h.
-            let same : h.over ≡ a = some_same (sym h.stands ∙ stands) in
+            let same : h.over ≡ a = cc in
             extended_in (routes N start a.tail) e (length a.sizes) r (record {
               before = h.front;
               listed = to_tail.every h.front (subst (λ (b : Arc). Route N start b.tail h.front) same h.leads);
@@ -99,7 +93,7 @@ module _ {N : Network} (ruled : Ruled N) (start e : ℕ) (a : Arc) (stands : at 
 
 -- an absent segment extends no route
 pub absent_exact : {N : Network} (start e : ℕ) → at N e ≡ None → Exactly (Extended N start e) []
-absent_exact start e none = record { apart = tt; every = λ r h. absurd (none_some (sym none ∙ h.stands)); only = λ r h. absurd h }
+absent_exact start e none = record { apart = tt; every = λ r h. absurd (cc h.stands); only = λ r h. absurd h }
 
 -- the routes whose last segment is at most e
 

@@ -1,5 +1,5 @@
 -- What stands in a list, and that nothing stands twice. Assumes nothing.
-use Rattle.std.proofs.Common.{◌≡◌, ℕ, Bool, true, false, cond, ◌⊎◌, List, [], ◌∷◌, ◌++◌, refl, inl, inr, ⊎_elim, arith}
+use Rattle.std.proofs.Common.{◌≡◌, Bool, true, false, cond, ◌⊎◌, List, [], ◌∷◌, ◌++◌, refl, inl, inr, ⊎_elim}
 use Rattle.algebra.specs.Lists.{In, Distinct}
 
 module _ {X : Type 0} where
@@ -25,7 +25,7 @@ module _ {X : Type 0} where
   -- a list that stands only where t is true
   pub cond_in : (t : Bool) (z : X) (xs : List X) → t ≡ true → In z xs → In z (cond t xs [])
   cond_in true z xs h m = m
-  cond_in false z xs h m = let w : ◌≡◌ {A = ℕ} 0 1 = cc in absurd (omega arith)
+  cond_in false z xs h m = absurd (cc)
 
   pub cond_out : (t : Bool) (z : X) (xs : List X) → In z (cond t xs []) → (t ≡ true) × In z xs
   cond_out true z xs m = (refl, m)

@@ -9,8 +9,8 @@ use Rattle.algebra.proofs.Membership.{distinct_append, cond_distinct}
 use Rattle.algebra.proofs.Enumerates.{Table, step, ends_out, extended_out, over_out, into_out, own_out}
 
 pub not_nil : (r : List Step) (x : Step) → [] ≡ r ++ x ∷ [] → ⊥
-not_nil [] x e = let z : ◌≡◌ {A = ℕ} 0 1 = cc in omega arith
-not_nil (y ∷ r) x e = let z : ◌≡◌ {A = ℕ} 0 1 = cc in omega arith
+not_nil [] x e = cc
+not_nil (y ∷ r) x e = cc
 
 ends_distinct : (r : List Step) (e c n : ℕ) → Distinct (ends_with r e c n)
 unfolding ends_with

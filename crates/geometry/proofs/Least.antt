@@ -56,5 +56,5 @@ support_least [] w m l = absurd (omega (arith, l.within))
 support_least (p ∷ ps) w m l = let (n, e, k) = least p ps w in e ∙ ap Some (least_same (p ∷ ps) w n m k l)
 
 pub least_support : (ps : List Pt) (w : Pt) (m : ℤ) → support ps w ≡ Some m → Least ps w m
-least_support [] w m e = absurd (let z : ◌≡◌ {A = ℕ} 0 1 = cc in omega arith)
+least_support [] w m e = absurd (cc)
 least_support (p ∷ ps) w m e = let (n, f, k) = least p ps w in subst (Least (p ∷ ps) w) (let z : n ≡ m = cc in z) k

@@ -41,7 +41,7 @@ priced_at xs ps w k e h P f read (Some x) (Some y) r o c p =
 
 -- a place that reads has something
 pub there_at : (o : Option Cheapest) (v : Cheapest) → option_map (λ y. y) o ≡ Some v → IsSome o
-there_at None v e = absurd (let n : ◌≡◌ {A = Option Cheapest} None (Some v) = e in cc)
+there_at None v e = absurd (cc)
 there_at (Some y) v e = refl
 
 -- what comes not before (b, j) is no less than it, and more where its second part is lower
