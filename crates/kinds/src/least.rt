@@ -19,6 +19,7 @@ impl Least {
     ghost use Rattle.network.specs.declared.fault.Place.TheVariants.{At};
     ghost use Rattle.network.specs.Faults.{listed};
 
+    // A constructor, and not a TryFrom: a kind is made at a weight, and the weight is not turned into it.
     /// The kind of least costs at a weight. Refuses with 8 where the weight is out of range.
     pub fn new(weight: Weight) -> Result<Least, Fault>
         ensures { MatchResult result (λ k. k.weight ≡ weight) (λ f. (listed f ≡ (8, At 0)) × (LawfulWeight weight → ⊥)) }

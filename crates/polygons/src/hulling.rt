@@ -40,6 +40,7 @@ fn march(left: &Polygon, right: &Polygon) -> Option<Polygon>
 {
     let p = left.corners[0];
     let q = right.corners[0];
+    // Room for two full polygons, and not a list that grows: no call is to fail for want of memory.
     let mut points = [p; 64];
     append(&mut points, 0, left);
     append(&mut points, left.count, right);

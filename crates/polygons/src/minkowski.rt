@@ -36,6 +36,7 @@ fn advance(left: &Polygon, right: &Polygon, i: usize, j: usize) -> (usize, usize
     requires { (i < left.now.count) × ((j < right.now.count) × (Exposed (sums (corner_list left.now) (corner_list right.now)) (add (nth (corner_list left.now) i) (nth (corner_list right.now) j)))) }
     ensures { Advanced (corner_list left.now) (corner_list right.now) i j result.0 result.1 }
 {
+    // Two polygons with a place in each, and not a struct of them: it would be made and taken apart at each corner.
     let k = following(left.count, i);
     let l = following(right.count, j);
     let turn = crossing(
@@ -53,6 +54,7 @@ fn walk(left: &Polygon, right: &Polygon) -> Option<Polygon>
     ensures { Answers hulls costs (chain (costs left.now) (costs right.now)) result }
 {
     let mut corners = [Cost::default(); 32];
+    // Two places kept as numbers, and not two iterators: which of the lists goes on depends on the turn at hand.
     let mut i = 0;
     let mut j = 0;
     for (n, corner) in corners.iter_mut().enumerate() {
