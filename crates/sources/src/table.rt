@@ -77,7 +77,7 @@ impl Table {
     /// 1..128, with 11 where there are more than 1,024 records, and then with the first fault of the first
     /// record that may not stand in the network: 5, 6, 7 or 12, with the record's number as its place. The
     /// table is then as it was.
-    #[tactic(auto, using(crate::proofs::Written::holds_written, crate::proofs::Judging::answered_records))]
+    #[tactic(auto, using(crate::proofs::Judging::answered_records))]
     pub fn fill(&mut self, nodes: usize, records: &[Record]) -> Result<(), Fault>
         ensures answers { Answered (Accepted nodes records.now) (Rejected nodes records.now) result }
         ensures holds { MatchResult result (λ _. table_network self.new ≡ listed nodes records.now) (λ _. self.new ≡ self.old) }
