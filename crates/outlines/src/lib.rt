@@ -1,11 +1,9 @@
 //! Polygons tried out: hulls, sums, cones, and the corner lists of whole networks.
 #![tactic(auto)]
 
-use closings::Closing;
 use corners::corner_lists;
-use grids::{Cell, Grid};
 use kinds::Kind;
-use network::{Choice, Fault, Record, Size};
+use network::{Choice, Record, Size};
 use polygons::{Hulls, Polygon};
 use runs::Sheet;
 use sources::{Source, Table};
@@ -13,85 +11,60 @@ use sources::{Source, Table};
 /// A price and a pressure.
 pub(crate) type Pair = (i32, i32);
 
-/// The point of a pair; nothing where it is out of range.
-pub(crate) fn point(pair: Pair) -> Polygon {
-    match Choice::new(Size {
-        price: pair.0,
-        pressure: pair.1,
-    }) {
-        Ok(choice) => Hulls.letter(choice),
-        Err(_) => Hulls.zero(),
-    }
+/// The point of a pair; none where it is out of range.
+pub(crate) fn point(pair: Pair) -> Option<Polygon> {
+    let (price, pressure) = pair;
+    let choice = Choice::try_from(Size { price, pressure }).ok()?;
+    Some(Hulls.letter(choice))
 }
 
-/// The hull of the points, or nothing where it does not fit.
-pub(crate) fn around(pairs: &[Pair]) -> Polygon {
+/// The hull of the points; none where it does not fit.
+pub(crate) fn around(pairs: &[Pair]) -> Option<Polygon> {
     let mut all = Hulls.zero();
     for pair in pairs {
-        match Hulls.join(&all, &point(*pair)) {
-            Some(more) => all = more,
-            None => return Hulls.zero(),
+        all = Hulls.join(&all, &point(*pair)?)?;
+    }
+    Some(all)
+}
+
+/// Whether there is a polygon and these are its corners, in this order.
+pub(crate) fn lists(polygon: Option<Polygon>, pairs: &[Pair]) -> bool {
+    match polygon {
+        Some(polygon) => {
+            let corners = polygon.corners();
+            corners.len() == pairs.len()
+                && corners
+                    .iter()
+                    .zip(pairs)
+                    .all(|(cost, pair)| (cost.price, cost.pressure) == *pair)
         }
-    }
-    all
-}
-
-/// Whether these are the corners, in this order.
-pub(crate) fn lists(polygon: &Polygon, pairs: &[Pair]) -> bool {
-    if polygon.count() != pairs.len() {
-        return false;
-    }
-    for (k, pair) in pairs.iter().enumerate() {
-        match polygon.corner(k) {
-            Some(cost) => {
-                if cost.price != pair.0 || cost.pressure != pair.1 {
-                    return false;
-                }
-            }
-            None => return false,
-        }
-    }
-    true
-}
-
-/// The parts of a corner's two rays.
-pub(crate) fn rays(polygon: &Polygon, k: usize) -> [i32; 4] {
-    match polygon.cone(k) {
-        Some((arriving, leaving)) => [arriving.a, arriving.b, leaving.a, leaving.b],
-        None => [999; 4],
+        None => false,
     }
 }
 
-/// The corner list of a node, from node 0.
-pub(crate) fn corners_at<S: Source>(source: &S, v: usize) -> Polygon {
-    let mut cells = [Hulls.zero(); 128];
+/// The parts of a corner's two rays; none where there is no polygon or no such corner.
+pub(crate) fn rays(polygon: Option<Polygon>, k: usize) -> Option<[i32; 4]> {
+    let (arriving, leaving) = polygon?.cone(k)?;
+    Some([arriving.a, arriving.b, leaving.a, leaving.b])
+}
+
+/// The corner list of a node, as a run from node 0 leaves it, whether or not the run is refused.
+pub(crate) fn corners_at<S: Source>(source: &S, v: usize) -> Option<Polygon> {
+    let mut cells = [Polygon::default(); 128];
     let mut sheet = Sheet::over(&mut cells);
     let _ = corner_lists(source, 0, &mut sheet);
-    match sheet.read(v) {
-        Some(polygon) => *polygon,
-        None => Hulls.zero(),
-    }
+    sheet.read(v).copied()
 }
 
 /// The table of segments e to e + 1, each with the choices (0, 0) and (1, e + 1).
 pub(crate) fn ladder() -> Table {
-    let none = Size {
-        price: 0,
-        pressure: 0,
-    };
-    let mut records = [Record {
-        tail: 0,
-        head: 1,
-        count: 2,
-        sizes: [none; 8],
-    }; 17];
-    let mut rise = 0i32;
+    let mut records = [Record::default(); 17];
+    // Record e is segment e, so its number is its place.
     for e in 0..17usize {
-        rise = rise.saturating_add(1);
-        let mut sizes = [none; 8];
+        let mut sizes = [Size::default(); 8];
         sizes[1] = Size {
             price: 1,
-            pressure: rise,
+            pressure: e as i32 + 1,
         };
         records[e] = Record {
             tail: e,
@@ -105,65 +78,34 @@ pub(crate) fn ladder() -> Table {
     table
 }
 
-/// The grid of two rows of two cells, where the cell to the right of the first costs five more.
-pub(crate) fn small_grid() -> Grid {
-    let free = Size {
-        price: 0,
-        pressure: 0,
-    };
-    let cells = [
-        Cell::Open(free),
-        Cell::Open(Size {
-            price: 5,
-            pressure: 0,
-        }),
-        Cell::Open(free),
-        Cell::Open(free),
-    ];
-    let mut grid = Grid::new();
-    let _ = grid.fill(
-        2,
-        2,
-        &cells,
-        &[
-            Size {
-                price: 1,
-                pressure: 4,
-            },
-            Size {
-                price: 3,
-                pressure: 1,
-            },
-        ],
-    );
-    grid
-}
-
 #[cfg(test)]
 mod tests {
     use super::*;
-    use network::Weight;
+    use closings::Closing;
+    use network::{Fault, Stage, Weight};
     use std::test::Fail;
+    use trials::small_grid;
 
     #[test]
     fn hulls_and_sums(rt: HostRuntime) -> Result<(), Fail> {
         let square = around(&[(1, 1), (0, 0), (0, 1), (1, 0)]);
-        assert!(rt; lists(&square, &[(0, 0), (1, 0), (1, 1), (0, 1)]));
+        assert!(rt; lists(square, &[(0, 0), (1, 0), (1, 1), (0, 1)]));
         let slant = around(&[(1, 1), (0, 0)]);
-        let Some(sum) = Hulls.chain(&square, &slant) else {
-            return Err(Fail::new("the sum fits"));
+        let (Some(one), Some(other)) = (square, slant) else {
+            return Err(Fail::new("both fit"));
         };
-        assert!(rt; lists(&sum, &[(0, 0), (1, 0), (2, 1), (2, 2), (1, 2), (0, 1)]));
+        let sum = Hulls.chain(&one, &other);
+        assert!(rt; lists(sum, &[(0, 0), (1, 0), (2, 1), (2, 2), (1, 2), (0, 1)]));
         let line = around(&[(2, 2), (1, 1), (3, 3)]);
-        assert!(rt; lists(&line, &[(1, 1), (3, 3)]));
-        assert!(rt; rays(&line, 0) == [2, -2, -2, 2]);
-        assert!(rt; lists(&around(&[(7, 7), (7, 7), (7, 7)]), &[(7, 7)]));
-        assert!(rt; rays(&point((7, 7)), 0) == [0, 0, 0, 0]);
-        assert!(rt; lists(&around(&[(3, 1), (1, 1), (2, 1)]), &[(1, 1), (3, 1)]));
-        assert!(rt; lists(&around(&[(1, 2), (1, 3), (1, 1)]), &[(1, 1), (1, 3)]));
+        assert!(rt; lists(line, &[(1, 1), (3, 3)]));
+        assert!(rt; rays(line, 0) == Some([2, -2, -2, 2]));
+        assert!(rt; lists(around(&[(7, 7), (7, 7), (7, 7)]), &[(7, 7)]));
+        assert!(rt; rays(point((7, 7)), 0) == Some([0, 0, 0, 0]));
+        assert!(rt; lists(around(&[(3, 1), (1, 1), (2, 1)]), &[(1, 1), (3, 1)]));
+        assert!(rt; lists(around(&[(1, 2), (1, 3), (1, 1)]), &[(1, 1), (1, 3)]));
         assert!(rt;
             lists(
-                &around(&[(0, 10), (20, 20), (6, 5), (10, 0)]),
+                around(&[(0, 10), (20, 20), (6, 5), (10, 0)]),
                 &[(0, 10), (10, 0), (20, 20)]
             )
         );
@@ -172,10 +114,12 @@ mod tests {
 
     #[test]
     fn questions(rt: HostRuntime) -> Result<(), Fail> {
-        let triangle = around(&[(0, 10), (10, 0), (20, 20)]);
+        let Some(triangle) = around(&[(0, 10), (10, 0), (20, 20)]) else {
+            return Err(Fail::new("three points fit"));
+        };
         assert!(rt; triangle.corner(3).is_none());
         assert!(rt; triangle.cone(3).is_none());
-        let none = Hulls.zero();
+        let none = Polygon::default();
         assert!(rt; none.count() == 0);
         assert!(rt; none.corner(0).is_none());
         assert!(rt; none.cone(0).is_none());
@@ -194,25 +138,23 @@ mod tests {
     #[test]
     fn whole_networks(rt: HostRuntime) -> Result<(), Fail> {
         let grid = small_grid();
-        assert!(rt; lists(&corners_at(&grid, 3), &[(2, 8), (6, 2), (11, 2), (7, 8)]));
+        assert!(rt; lists(corners_at(&grid, 3), &[(2, 8), (6, 2), (11, 2), (7, 8)]));
         let mut closing = Closing::over(grid);
         assert!(rt; closing.close(1).is_ok());
-        assert!(rt; lists(&corners_at(&closing, 3), &[(2, 8), (6, 2)]));
-        assert!(rt; lists(&corners_at(&closing, 0), &[(0, 0)]));
-        assert!(rt; lists(&corners_at(&closing, 1), &[]));
+        assert!(rt; lists(corners_at(&closing, 3), &[(2, 8), (6, 2)]));
+        assert!(rt; lists(corners_at(&closing, 0), &[(0, 0)]));
+        assert!(rt; lists(corners_at(&closing, 1), &[]));
         let ladder = ladder();
-        assert!(rt; corners_at(&ladder, 16).count() == 32);
-        assert!(rt; corners_at(&ladder, 17).count() == 0);
-        let mut cells = [Hulls.zero(); 18];
+        assert!(rt; corners_at(&ladder, 16).map(|list| list.count()) == Some(32));
+        assert!(rt; corners_at(&ladder, 17).map(|list| list.count()) == Some(0));
+        let mut cells = [Polygon::default(); 18];
         let mut sheet = Sheet::over(&mut cells);
-        match corner_lists(&ladder, 0, &mut sheet) {
-            Err(Fault::Misfit(17, 16, network::Stage::Chain)) => {}
-            _ => return Err(Fail::new("33 corners do not fit")),
-        }
+        let outcome = corner_lists(&ladder, 0, &mut sheet);
+        assert!(rt; outcome == Err(Fault::Misfit(17, 16, Stage::Chain)));
         let mut cut = Closing::over(ladder);
         assert!(rt; cut.close(5).is_ok());
-        assert!(rt; corners_at(&cut, 4).count() == 8);
-        assert!(rt; lists(&corners_at(&cut, 16), &[]));
+        assert!(rt; corners_at(&cut, 4).map(|list| list.count()) == Some(8));
+        assert!(rt; lists(corners_at(&cut, 16), &[]));
         Ok(())
     }
 }
