@@ -20,6 +20,7 @@ fn along(first: &Way, second: &Way) -> i64
     product(first.dx, second.dx) + product(first.dy, second.dy)
 }
 
+// Three points each time, and not a struct of them: its name would say no more than theirs.
 /// Above 0 where r is to the left of the way from p to q, 0 where it is in line.
 fn turn(p: Cost, q: Cost, r: Cost) -> i64
     ensures { result ≡ orient (place p) (place q) (place r) }
