@@ -4,6 +4,7 @@
 use report::report;
 use std::io;
 use std::io::Read;
+use stored::Pieces;
 
 /// Prints the answer to one takeoff.
 fn print_answer(rt: &HostRuntime, takeoff: &[u8]) -> io::Result<()> {
@@ -15,18 +16,12 @@ fn print_answer(rt: &HostRuntime, takeoff: &[u8]) -> io::Result<()> {
 
 /// Prints the answers to the takeoffs that the bytes hold, each behind two bytes that say its length.
 fn print_all(rt: &HostRuntime, bytes: &[u8]) -> io::Result<()> {
-    let mut rest = bytes;
-    let mut number = 0u32;
-    while let [high, low, more @ ..] = rest {
-        let length = usize::from(*high) * 256 + usize::from(*low);
-        if more.len() < length {
+    for (number, piece) in Pieces::new(bytes).enumerate() {
+        let Ok(takeoff) = piece else {
             return println!(rt; "cut short");
-        }
-        let (takeoff, after) = more.split_at(length);
+        };
         println!(rt; "case {number}")?;
         print_answer(rt, takeoff)?;
-        number = number.saturating_add(1);
-        rest = after;
     }
     Ok(())
 }
