@@ -1,11 +1,12 @@
 //! Writing over the front of an array.
 ghost use Rattle.std.specs.Prelude.{◌≡◌, ◌≤◌, length, take};
 
-/// Writes the items over the first that stand in an array.
+/// Writes the items over the first that stand in an array, as many as there is room for.
 pub fn overwrite_front<T: Copy, const N: usize>(kept: &mut [T; N], items: &[T])
-    requires { length items.now ≤ N }
-    ensures begins { take (length items.now) kept.new ≡ items.now }
+    ensures all_that_fit { length items.now ≤ N → take (length items.now) kept.new ≡ items.now }
+    ensures else_the_first { N ≤ length items.now → kept.new ≡ take N items.now }
     ensures room { length kept.new ≡ N }
 {
-    kept[..items.len()].copy_from_slice(items);
+    let fitting = items.len().min(N);
+    kept[..fitting].copy_from_slice(&items[..fitting]);
 }
