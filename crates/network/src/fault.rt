@@ -49,6 +49,7 @@ pub enum Fault {
 
 impl Fault {
     /// The number under which the fault is reported.
+    // A table, and not a cast: the numbers have gaps, and most cases carry their place.
     pub fn number(&self) -> u8
         ensures { result ≡ number_of self.now }
     {

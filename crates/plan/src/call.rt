@@ -4,7 +4,7 @@ use polygons::Cheapest;
 
 /// A call of a plan. A route names, behind its node and corner, the place where a part of the steps begins and how long
 /// the part is; it is written there.
-#[derive(Clone, Copy)]
+#[derive(Clone, Copy, Debug, PartialEq, Eq)]
 pub enum Call {
     Start(usize),
     Settle,
@@ -16,7 +16,7 @@ pub enum Call {
 }
 
 /// What an accepted call answers: a route, how many steps it wrote.
-#[derive(Clone, Copy)]
+#[derive(Clone, Copy, Debug, PartialEq, Eq)]
 pub enum Reply {
     Done,
     Count(usize),

@@ -18,6 +18,7 @@ impl<S: Source> Plan<S> {
         ensures moves_on { progress self.new.state ≡ after_call (progress self.old.state) call result }
         ensures answers { Right (S.Source.network self.old.source) (progress self.old.state) call steps.old result steps.new }
     {
+        // A match, and not a table of functions: a call is a plain value, as a list of calls needs.
         match call {
             Call::Start(s) => self.start(s).map(|()| Reply::Done),
             Call::Settle => self.settle().map(|()| Reply::Done),

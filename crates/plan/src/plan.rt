@@ -9,6 +9,7 @@ use std::marker::Model;
 
 /// A plan: a source, the start from which routes are sought, and the corner lists of the nodes that are settled, which
 /// are the lowest. Only its own calls change it, and none changes its source.
+// That none changes its source is said by each call that changes the plan: a type tells nothing of before and after.
 #[derive(Drop)]
 pub struct Plan<S: Source> {
     pub(crate) source: S,

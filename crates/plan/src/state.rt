@@ -5,7 +5,7 @@ use polygons::Polygon;
 
 /// The state of a plan: its start, if it has one, how many nodes are settled, the lowest first, and the polygon of each
 /// node, whose corners are its corner list.
-#[derive(Clone, Copy)]
+#[derive(Clone, Copy, Debug)]
 pub struct State {
     pub(crate) start: Option<usize>,
     pub(crate) settled: usize,

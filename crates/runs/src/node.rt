@@ -28,6 +28,7 @@ fn gather<K: Kind, S: Source>(
     ensures { Gathers (K.Kind.ring kind.now) (K.Kind.means kind.now) (S.Source.network source.now) start v held.now result }
 {
     let mut sum = beginning(kind, start, v);
+    // A source is asked number by number; no array is gone over.
     for e in 0..source.segments() {
         if let Some(segment) = source.entering(e, v) {
             // A `map_err` would hide from the proof which fault its closure makes.

@@ -28,6 +28,7 @@ pub fn run<K: Kind, S: Source>(
     if sheet.len() < nodes {
         return Err(Fault::NoRoom(0));
     }
+    // Nodes are numbers: each is asked of the source, and its cell of the sheet.
     for v in 0..nodes {
         let value = node_value(kind, source, start, v, sheet.all())?;
         sheet.put(v, value);

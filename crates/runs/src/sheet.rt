@@ -8,6 +8,7 @@ pub struct Sheet<'a, T> {
 }
 
 /// Writes a cell, if it is there.
+// A truth value, and not a Result: there is no fault to name, and a run that has tested the length has nothing to pass on.
 fn store<T: Drop>(cells: &mut [T], v: usize, x: T) -> bool
     ensures writes { cells.new ≡ slice_set cells.old v x }
     ensures tells { Decides result (v < length cells.old) }

@@ -105,6 +105,7 @@ impl Header {
         ensures segments_after { MatchResult result (λ _. segments.new ≡ stored_segments self.old item segments.old) (λ _. segments.new ≡ segments.old) }
         ensures weights_after { MatchResult result (λ _. weights.new ≡ stored_weights self.old item weights.old) (λ _. weights.new ≡ weights.old) }
     {
+        // A match over what was read, and not a table of functions: each case has other parts.
         match item {
             Item::Nodes(nodes) => self.take_nodes(nodes, at),
             Item::Segment(segment) => self.take_segment(segment, at, segments),

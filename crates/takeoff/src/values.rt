@@ -75,6 +75,7 @@ pub(crate) fn decode(tag: Tag, body: &[u8]) -> Item
     requires { Fitting (form_of tag) (length body.now) }
     ensures { Decoded tag body.now result }
 {
+    // A match over the tag, and not a table of functions: the cases make different things.
     match tag {
         Tag::Nodes => Item::Nodes(usize::from(body[0])),
         Tag::Segment => Item::Segment(segment_from(

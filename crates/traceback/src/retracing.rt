@@ -10,7 +10,7 @@ use sources::Source;
 
 /// The first `count` of `steps`, in the order in which they were taken back: the last step of the route is first.
 // As many places as a route can have steps, and how many are used: no call is to fail for want of memory.
-#[derive(Clone, Copy)]
+#[derive(Clone, Copy, Debug, PartialEq, Eq)]
 pub(crate) struct Trail {
     pub count: usize,
     pub steps: [Step; 128],

@@ -25,6 +25,7 @@ pub(crate) fn step_back<S: Source>(
 ) -> Option<Stepped>
     ensures { SteppedBack (S.Source.network source.now) lists.now v (point left.now) result }
 {
+    // A source is asked number by number; no array is gone over.
     for e in 0..source.segments() {
         if let Some(segment) = source.entering(e, v) {
             let tail = segment.listed.tail;
