@@ -6,6 +6,9 @@ use std::io;
 use std::io::Read;
 use stored::Pieces;
 
+// `cases` prints another report in the same way: one function for both would be passed the report's own function and a
+// bound for its text, which is no plainer than these few lines.
+
 /// Prints the answer to one takeoff.
 fn print_answer(rt: &HostRuntime, takeoff: &[u8]) -> io::Result<()> {
     match report(takeoff) {

@@ -9,6 +9,8 @@ use std::fmt::{Display, Formatter};
 
 /// A line of a report: a weight of the takeoff, and the least weighted cost there; none where no route leads to the
 /// target. The default has none.
+// Beside `printout::WeightLine`, and not one type with it: the other's line says the corner too, so that the two differ
+// in what they say and not in a type alone.
 #[derive(Clone, Copy, Debug, Default, PartialEq, Eq)]
 pub struct Line {
     pub weight: Weight,

@@ -3,51 +3,42 @@
 
 ghost use Rattle.std.specs.Prelude.{◌≤◌};
 
-use network::{Fault, Record, Size, Step, Weight};
+use network::{Fault, Record, Step, Weight};
 use plan::{Call, Reply, carry_out};
 use sources::Table;
 use std::io;
 use std::io::Read;
 use takeoff::read;
 
-/// The call of five small numbers and a weight.
-fn call_of(numbers: [u8; 5], weight: Weight) -> Call {
-    let v = usize::from(numbers[1]);
-    let k = usize::from(numbers[2]);
-    match numbers[0] {
+/// The call that thirteen bytes say: its kind, four small numbers, and the two parts of a weight.
+fn call_of(bytes: &[u8; 13]) -> Call {
+    let [kind, v, k, from, long, a0, a1, a2, a3, b0, b1, b2, b3] = *bytes;
+    let v = usize::from(v);
+    let k = usize::from(k);
+    let weight = Weight {
+        a: i32::from_be_bytes([a0, a1, a2, a3]),
+        b: i32::from_be_bytes([b0, b1, b2, b3]),
+    };
+    match kind {
         0 => Call::Start(v),
         1 => Call::Settle,
         2 => Call::Count(v),
         3 => Call::Corner(v, k),
         4 => Call::Cone(v, k),
         5 => Call::Cheapest(v, weight),
-        _ => Call::Route(v, k, usize::from(numbers[3]), usize::from(numbers[4])),
+        _ => Call::Route(v, k, usize::from(from), usize::from(long)),
     }
 }
 
 /// Prints one answer.
 fn print_answer(rt: &HostRuntime, answer: &Result<Reply, Fault>) -> io::Result<()> {
-    match *answer {
-        Ok(reply) => match reply {
-            Reply::Done => println!(rt; "done"),
-            Reply::Count(corners) => println!(rt; "count {corners}"),
-            Reply::Corner(cost) => {
-                let price = cost.price;
-                let pressure = cost.pressure;
-                println!(rt; "corner {price} {pressure}")
-            }
-            Reply::Cone(first, second) => {
-                let (p, q) = (first.a, first.b);
-                let (r, t) = (second.a, second.b);
-                println!(rt; "cone {p} {q} {r} {t}")
-            }
-            Reply::Cheapest(best) => {
-                let least = best.least;
-                let corner = best.corner;
-                println!(rt; "least {least} corner {corner}")
-            }
-            Reply::Route(count) => println!(rt; "steps {count}"),
-        },
+    match answer {
+        Ok(Reply::Done) => println!(rt; "done"),
+        Ok(Reply::Count(corners)) => println!(rt; "count {corners}"),
+        Ok(Reply::Corner(cost)) => println!(rt; "corner {cost}"),
+        Ok(Reply::Cone(first, second)) => println!(rt; "cone {first} {second}"),
+        Ok(Reply::Cheapest(best)) => println!(rt; "{best}"),
+        Ok(Reply::Route(count)) => println!(rt; "steps {count}"),
         Err(fault) => println!(rt; "{fault}"),
     }
 }
@@ -56,43 +47,18 @@ fn print_answer(rt: &HostRuntime, answer: &Result<Reply, Fault>) -> io::Result<(
 fn decode(encoded: &[u8], calls: &mut [Call; 64]) -> usize
     ensures { result ≤ 64 }
 {
-    let mut count = 0;
-    let mut rest = encoded;
-    while let [
-        op,
-        v,
-        k,
-        from,
-        long,
-        a0,
-        a1,
-        a2,
-        a3,
-        b0,
-        b1,
-        b2,
-        b3,
-        more @ ..,
-    ] = rest
-    {
-        let a = i32::from_be_bytes([*a0, *a1, *a2, *a3]);
-        let b = i32::from_be_bytes([*b0, *b1, *b2, *b3]);
-        if count < 64 {
-            calls[count] = call_of([*op, *v, *k, *from, *long], Weight { a, b });
-            count += 1;
-        }
-        rest = more;
+    let (chunks, _) = encoded.as_chunks();
+    for (call, chunk) in calls.iter_mut().zip(chunks) {
+        *call = call_of(chunk);
     }
-    count
+    chunks.len().min(64)
 }
 
 /// Prints what the steps hold.
 fn print_place(rt: &HostRuntime, steps: &[Step]) -> io::Result<()> {
     print!(rt; "place")?;
     for step in steps {
-        let segment = step.segment;
-        let choice = step.choice;
-        print!(rt; " {segment}.{choice}")?;
+        print!(rt; " {step}")?;
     }
     println!(rt; "")
 }
@@ -106,33 +72,27 @@ fn print_calls(rt: &HostRuntime, table: Table, encoded: &[u8]) -> io::Result<()>
         segment: 9999,
         choice: 9,
     }; 48];
-    let _ = carry_out(table, &calls[0..count], &mut answers, &mut steps);
-    for answer in &answers[0..count] {
+    let _ = carry_out(table, &calls[..count], &mut answers, &mut steps);
+    for answer in &answers[..count] {
         print_answer(rt, answer)?;
     }
     print_place(rt, &steps)
 }
 
+/// The table of the segments that a takeoff lists.
+fn table_of(takeoff: &[u8]) -> Result<Table, Fault> {
+    let mut records = [Record::default(); 1024];
+    let mut weights = [Weight::default(); 16];
+    let header = read(takeoff, &mut records, &mut weights)?;
+    let mut table = Table::new();
+    table.fill(header.nodes, &records[..header.segments.min(1024)])?;
+    Ok(table)
+}
+
 /// Prints what a list of calls answers over the network of a takeoff.
 fn print_session(rt: &HostRuntime, takeoff: &[u8], encoded: &[u8]) -> io::Result<()> {
-    let blank = Record {
-        tail: 0,
-        head: 0,
-        count: 0,
-        sizes: [Size {
-            price: 0,
-            pressure: 0,
-        }; 8],
-    };
-    let mut records = [blank; 1024];
-    let mut weights = [Weight { a: 0, b: 0 }; 16];
-    let header = match read(takeoff, &mut records, &mut weights) {
-        Ok(header) => header,
-        Err(fault) => return println!(rt; "{fault}"),
-    };
-    let mut table = Table::new();
-    match table.fill(header.nodes, &records[0..header.segments.min(1024)]) {
-        Ok(()) => print_calls(rt, table, encoded),
+    match table_of(takeoff) {
+        Ok(table) => print_calls(rt, table, encoded),
         Err(fault) => println!(rt; "{fault}"),
     }
 }
@@ -141,6 +101,7 @@ fn print_session(rt: &HostRuntime, takeoff: &[u8], encoded: &[u8]) -> io::Result
 /// calls stand behind it.
 fn print_all(rt: &HostRuntime, bytes: &[u8]) -> io::Result<()> {
     let mut rest = bytes;
+    // The sessions are numbered by hand: an iterator of their own for this one loop would be longer and no plainer.
     let mut number = 0u32;
     while let [high, low, count, more @ ..] = rest {
         let length = usize::from(*high) * 256 + usize::from(*low);
