@@ -67,6 +67,9 @@ impl Header {
         Ok(())
     }
 
+    // Segments and weights are taken alike, but by other counts and other rules: one function for both would be passed
+    // the rule and where to count, and be no plainer.
+
     /// Takes a weight to the next free element of its place. Refuses with 11 where there are 16, 10 where the
     /// place is full, and 8 where the weight is out of range.
     fn take_weight(&mut self, weight: Weight, at: usize, room: &mut [Weight]) -> Result<(), Fault>
