@@ -58,7 +58,7 @@ def tell(point, what, places):
 # 1. Options and results
 tell(1, "arms and tests that only hand a None or an Err on",
      found(r"None => (?:return )?(?:None|Err\([^)]*\)+|Ok\(None\)|0|999|\[999; 4\]|Hulls\.zero\(\)|return Hulls\.zero\(\))[,;]")
-     + found(r"Err\((\w+)\) => (?:return )?(?:Err\(\1\)|println!\(rt; \"\{\1\}\"\))[,;]?$")
+     + found(r"Err\((\w+)\) => (?:return )?Err\(\1\)[,;]?$")
      + found(r"if let Err\((\w+)\) = [^{]*\{\s*return Err\(\1\);")
      + found(r"_ => (?:return )?None,"))
 tell(1, "numbers in place of a missing value, a kind or a refusal",

@@ -10,6 +10,7 @@ use sources::Source;
 /// Writes each node's least weighted cost over all routes from the start, none where no route leads there. Refuses
 /// with 8 where the weight is out of range, with 5 where the start is no node and with 10 where the sheet is shorter
 /// than the nodes, and leaves the sheet as it was. Every result fits, so it never ends with 24.
+// Source, start and sheet as a run takes them: a struct of the three would be made for this one call.
 pub fn least_costs<S: Source>(
     source: &S,
     start: usize,

@@ -17,6 +17,7 @@ pub fn least_cost<S: Source>(
 ) -> Result<Option<Amount>, Fault>
     ensures { LeastAnswer (S.Source.network source.now) start target weight result }
 {
+    // As many cells as a network can have nodes, and not a list that grows: no call is to fail for want of memory.
     let mut cells = [None; 128];
     let mut sheet = Sheet::over(&mut cells);
     least_costs(source, start, weight, &mut sheet)?;

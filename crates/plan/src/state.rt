@@ -9,6 +9,7 @@ use polygons::Polygon;
 pub struct State {
     pub(crate) start: Option<usize>,
     pub(crate) settled: usize,
+    // As many lists as a network can have nodes, and not lists that grow: no call is to fail for want of memory.
     pub(crate) lists: [Polygon; 128],
     ghost room: { length lists ≡ 128 },
 }

@@ -12,6 +12,7 @@ use sources::Source;
 /// it. Refuses with 5 where the start is no node and with 10 where the sheet is shorter than the nodes, and leaves
 /// the sheet as it was. Ends with 24 at the first result that does not fit: the nodes before it hold their values,
 /// and the rest of the sheet is as it was, as are always the cells past the nodes.
+// Kind, source and start stand side by side, and not in a struct: it would borrow the first two for this one call.
 pub fn run<K: Kind, S: Source>(
     kind: &K,
     source: &S,
