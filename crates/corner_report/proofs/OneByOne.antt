@@ -6,7 +6,6 @@ use Rattle.network.specs.Networks.{Network}
 use Rattle.geometry.specs.Plane.{Pt}
 use Rattle.polygons.specs.declared.cheapest.Cheapest.{Cheapest}
 use Rattle.polygons.specs.declared.polygon.Polygon.{Polygon}
-use Rattle.takeoff.specs.declared.header.Header.{Header}
 use Rattle.traceback.specs.Tracing.{list_of}
 use Rattle.printout.specs.declared.entry.Entry.{Entry}
 use Rattle.printout.specs.declared.weight_line.WeightLine.{WeightLine}
@@ -27,15 +26,15 @@ put_more {X} P xs n x inside here before =
     (λ k l d. let ne : k ≢ n = omega arith in subst (P k) (sym (get_or-set_other xs n k x d ne)) (before k l d))
     (λ d. subst (P n) (sym (get_or-set_same xs n x d inside)) here)
 
-module _ (N : Network) (h : Header) (list : List Pt) where
-  pub entered_more : (entries : List Entry) (k : ℕ) (e : Entry) → k < length entries → Tells N h.start h.target list k e → Entered N h list entries k → Entered N h list (set entries k e) (k + 1)
-  entered_more entries k e inside tells so = put_more (Tells N h.start h.target list) entries k e inside tells so
+module _ (N : Network) (s v : ℕ) (list : List Pt) where
+  pub entered_more : (entries : List Entry) (k : ℕ) (e : Entry) → k < length entries → Tells N s v list k e → Entered N s v list entries k → Entered N s v list (set entries k e) (k + 1)
+  entered_more entries k e inside tells so = λ i below _. put_more (Tells N s v list) entries k e inside tells (λ j l. so j l (omega arith)) i below
 
-  pub lined_none : (weights : List Weight) (lines : List WeightLine) → length lines ≡ 16 → Lined N h list weights lines 0
+  pub lined_none : (weights : List Weight) (lines : List WeightLine) → length lines ≡ 16 → Lined N s v list weights lines 0
   lined_none weights lines room = record { room = room; kept = refl; weighs = λ i l. absurd (omega arith) }
 
   pub lined_more : (weights : List Weight) (lines : List WeightLine) (i : ℕ) (e : Weight) (b : Option Cheapest) → i < length weights → length weights ≤ 16
-      → Weighs N h.start h.target list (get_or weights i e) b → Lined N h list weights lines i → Lined N h list weights (set lines i (record { weight = get_or weights i e; best = b })) (i + 1)
+      → Weighs N s v list (get_or weights i e) b → Lined N s v list weights lines i → Lined N s v list weights (set lines i (record { weight = get_or weights i e; best = b })) (i + 1)
   lined_more weights lines i e b here few weighs so =
       let line : WeightLine = record { weight = get_or weights i e; best = b } in
       let inside : i < length lines = omega (arith, so.room) in
@@ -46,5 +45,5 @@ module _ (N : Network) (h : Header) (list : List Pt) where
             ∙ map_push (λ (l : WeightLine). l.weight) (take i lines) line
             ∙ ap (λ ws. ws ++ get_or weights i e ∷ []) so.kept
             ∙ sym (take_more weights i e here);
-        weighs = put_more (λ _ (l : WeightLine). Weighs N h.start h.target list l.weight l.best) lines i line inside weighs so.weighs;
+        weighs = put_more (λ _ (l : WeightLine). Weighs N s v list l.weight l.best) lines i line inside weighs so.weighs;
       }

@@ -1,5 +1,5 @@
 -- From what was read of a takeoff to its report. Assumes nothing.
-use Rattle.std.proofs.Common.{◌≡◌, ℕ, ◌-◌, ◌<◌, ◌≤◌, List, [], ◌∷◌, map, length, get_or, take, Some, Ok, Err, Option, Result, sym, refl, ap, ◌∙◌, subst, inr, arith, MatchResult}
+use Rattle.std.proofs.Common.{◌≡◌, ℕ, ◌+◌, ◌-◌, ◌<◌, ◌≤◌, List, [], ◌∷◌, map, length, get_or, take, Some, Ok, Err, Option, Result, sym, refl, ap, ◌∙◌, subst, inr, arith, MatchResult}
 use Rattle.std.specs.List.{AllByRecursion}
 use Rattle.std.proofs.ByRecursion.{All-get_or}
 use Rattle.std.proofs.lemmas.List.{get_or-map, length-map, map-id, take_all}
@@ -11,7 +11,7 @@ use Rattle.network.specs.Networks.{Network, Arc, arc}
 use Rattle.network.specs.Records.{Counted}
 use Rattle.sources.specs.Filling.{Accepted}
 use Rattle.sources.specs.Listed.{entry}
-use Rattle.sources.specs.Tables.{listed, table_network}
+use Rattle.sources.specs.Tables.{listed}
 use Rattle.plan.specs.PlanParts.{PlanParts}
 use Rattle.sources.specs.declared.table.Table.{Table}
 use Rattle.takeoff.specs.declared.header.Header.{Header}
@@ -21,7 +21,8 @@ use Rattle.printout.specs.declared.summary.Report.{Report}
 use Rattle.printout.specs.declared.weight_line.WeightLine.{WeightLine}
 use Rattle.corner_report.specs.Planned.{Entered, Lined, Planned, Reckoned, target_list}
 use Rattle.corner_report.specs.Reports.{network_of, Answers, Takeoff, Misfits, Reported}
-use Rattle.corner_report.proofs.AtTarget.{target_corners}
+use Rattle.corner_report.proofs.AtTarget.{corners_settled}
+use Rattle.corner_report.proofs.OneByOne.{few_corners}
 
 -- records that say lawful segments and count their choices make a table
 accepted : (n : ℕ) (arcs : List Arc) (rs : List Record) → (1 ≤ n) × (n ≤ 128) → length arcs ≤ 1024 → AllByRecursion (LawfulArc n) arcs → map arc rs ≡ arcs → AllByRecursion Counted rs → Accepted n rs
@@ -84,21 +85,17 @@ module _ (bytes : List ℕ) (c : Contents) (whole : Complete c) (lawful : Lawful
         answers = subst (λ (N : Network). Answers N (start_of c) (target_of c) (weights_of c) x) same_network h.answers;
       }
 
--- a plan over a network is one over the network of its own source
-pub over_own : (N : Network) (h : Header) (p : PlanParts Table) → Planned N h p → Planned (table_network p.source) h p
-over_own N h p planned = subst (λ (M : Network). Planned M h p) (sym planned.settled.source_is) planned
-
 -- the entries and lines of a plan are those of a report
 pub answered : (N M : Network) → M ≡ N → (h : Header) (p : PlanParts Table) → Planned M h p → (weights : List Weight) (x : Report)
-    → x.corners ≡ length (target_list h p) → Entered M h (target_list h p) x.entries x.corners
-    → x.weights ≡ length weights → Lined M h (target_list h p) weights x.lines (length weights)
+    → x.corners ≡ length (target_list h p) → length x.entries ≡ 32 → Entered M h.start h.target (target_list h p) x.entries x.corners
+    → x.weights ≡ length weights → Lined M h.start h.target (target_list h p) weights x.lines (length weights)
     → Answers N h.start h.target weights x
-answered N M same h p planned weights x counted entered many lined =
+answered N M same h p planned weights x counted room entered many lined =
     subst (λ (K : Network). Answers K h.start h.target weights x) same (record {
       list = target_list h p;
-      corners = target_corners M h p planned;
+      corners = corners_settled M h.start (h.target + 1) p.state planned h.target (omega arith);
       corners_counted = counted;
-      tells = λ k l. entered k (omega arith);
+      tells = λ k l. entered k (omega arith) (omega (arith, few_corners p.state.lists h.target));
       weights_counted = many;
       weights_kept = ap (λ n. map (λ (l : WeightLine). l.weight) (take n x.lines)) many ∙ lined.kept ∙ take_all (length weights) weights (omega arith);
       weighs = λ i l. lined.weighs i (omega arith);

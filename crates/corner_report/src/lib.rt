@@ -6,4 +6,6 @@ mod lines;
 mod planning;
 mod reckoning;
 
+pub use entries::entries_of;
+pub use planning::settled;
 pub use reckoning::report;

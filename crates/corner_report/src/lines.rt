@@ -33,7 +33,7 @@ pub(crate) fn lines_of(
 ) -> Result<[WeightLine; 16], Fault>
     requires planned { Planned (table_network plan.now.source) header.now plan.now }
     requires weighed { (length weights.now ≤ 16) × (AllByRecursion LawfulWeight weights.now) }
-    ensures { MatchResult result (λ lines. Lined (table_network plan.now.source) header.now (target_list header.now plan.now) weights.now lines (length weights.now)) (λ _. ⊥) }
+    ensures { MatchResult result (λ lines. Lined (table_network plan.now.source) header.now.start header.now.target (target_list header.now plan.now) weights.now lines (length weights.now)) (λ _. ⊥) }
 {
     let mut lines = [WeightLine::default(); 16];
     for (i, weight) in weights.iter().enumerate() {

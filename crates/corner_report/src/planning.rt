@@ -1,23 +1,22 @@
-//! A plan that has settled the target of a takeoff.
-ghost use Rattle.std.specs.Prelude.{◌≡◌, ◌<◌, MatchResult};
-ghost use Rattle.sources.specs.Tables.{table_network};
-ghost use Rattle.corner_report.specs.Planned.{Planned};
-ghost use Rattle.corner_report.specs.Reports.{Misfits};
+//! A plan that has settled a node.
+ghost use Rattle.std.specs.Prelude.{◌≡◌, ◌+◌, MatchResult};
+ghost use Rattle.corner_report.specs.Planned.{SettledTo, Unsettled};
 
 use network::Fault;
 use plan::Plan;
-use sources::Table;
-use takeoff::Header;
+use sources::Source;
 
-/// The plan over the table, from the header's start, with all nodes settled up to the target. Refuses with 24 where a
-/// result does not fit.
-pub(crate) fn planned(table: Table, header: &Header) -> Result<Plan<Table>, Fault>
-    requires { (header.now.start < (table_network table).nodes) × (header.now.target < (table_network table).nodes) }
-    ensures { MatchResult result (λ p. Planned (table_network table) header.now p) (λ f. Misfits (table_network table) header.now.start header.now.target f) }
+/// The plan over a source, from `start`, with all nodes settled up to `target`. Refuses with 5 where one of the two is no
+/// node and with 24 where a result up to the target does not fit.
+pub fn settled<S: Source + Drop>(source: S, start: usize, target: usize) -> Result<Plan<S>, Fault>
+    ensures { MatchResult result (λ p. (p.source ≡ source) × SettledTo (S.Source.network p.source) start p.state (target + 1)) (λ f. Unsettled (S.Source.network source) start target f) }
 {
-    let mut plan = Plan::new(table);
-    plan.start(header.start)?;
-    for _v in 0..header.target + 1 {
+    if target >= source.nodes() {
+        return Err(Fault::BadNode(0));
+    }
+    let mut plan = Plan::new(source);
+    plan.start(start)?;
+    for _v in 0..target + 1 {
         plan.settle()?;
     }
     Ok(plan)

@@ -9,7 +9,7 @@ ghost use Rattle.corner_report.specs.Reports.{Misfits, Reported};
 
 use crate::entries::entries_of;
 use crate::lines::lines_of;
-use crate::planning::planned;
+use crate::planning::settled;
 use network::{Fault, Record, Weight};
 use printout::{Heading, Report};
 use sources::Table;
@@ -24,8 +24,8 @@ fn reckon(header: Header, records: &[Record], weights: &[Weight]) -> Result<Repo
 {
     let mut table = Table::new();
     table.fill(header.nodes, records)?;
-    let plan = planned(table, &header)?;
-    let (corners, entries) = entries_of(&plan, &header)?;
+    let plan = settled(table, header.start, header.target)?;
+    let (corners, entries) = entries_of(&plan, header.target)?;
     let lines = lines_of(&plan, &header, weights)?;
     let heading = Heading {
         nodes: header.nodes,

@@ -1,8 +1,6 @@
 pub mod NeverStops
-pub mod NotRefused
 pub mod OneCheapest
 pub mod AtNode
-pub mod OneMore
 pub mod Laying
 pub mod Reports
 pub mod OneNumber

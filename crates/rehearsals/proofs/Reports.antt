@@ -7,7 +7,6 @@ use Rattle.network.specs.declared.fault.Fault.{Fault}
 use Rattle.network.specs.declared.weight.Weight.{Weight}
 use Rattle.network.specs.Networks.{Network}
 use Rattle.geometry.specs.Plane.{Pt}
-use Rattle.polygons.specs.Fits.{hulls}
 use Rattle.corners.proofs.OneList.{one_corner_list}
 use Rattle.takeoff.specs.Answers.{Answered}
 use Rattle.takeoff.specs.Takeoff.{Contents, FindsRoom, header_of, start_of, target_of, weights_of}
@@ -19,24 +18,13 @@ use Rattle.corner_report.specs.Reports.{Answers, MisfitOf, Misfits, Reported, Te
 use Rattle.samples.specs.Files.{FileOf}
 use Rattle.rehearsals.specs.Reporting.{ReportSays}
 use Rattle.samples.specs.Samples.{Holds, Sample}
-use Rattle.rehearsals.specs.Telling.{EntrySays}
-use Rattle.rehearsals.proofs.AtNode.{same_rays}
-use Rattle.rehearsals.proofs.NeverStops.{never_stops}
+use Rattle.rehearsals.proofs.AtNode.{entry_says, never_misfits}
 use Rattle.rehearsals.proofs.OneCheapest.{one_answer}
 
 abbrev weight_of : WeightLine → Weight
 weight_of l = l.weight
 
 module _ (x : Sample) (holds : Holds x) where
-  entry_says : (k : ℕ) → k < length x.corners → (e : Entry) → Tells x.network 0 x.node x.corners k e → EntrySays x k e
-  entry_says k within e tells = record {
-    numbered = tells.numbered;
-    costs = tells.costs;
-    rays = λ d. same_rays _ _ _ _ k _ _ tells.cone (holds.cones_are.each k within d);
-    route_numbered = tells.route_numbered;
-    route = λ d. (holds.routes_are.each k within d).only _ tells.route.leads tells.route.costs;
-  }
-
   -- the lines are those of the same weights, and a weight has one answer
   lines_same : (ws : List Weight) (r : Report) (lines : List WeightLine) → map weight_of lines ≡ ws
       → AllByRecursion (λ (l : WeightLine). Weighs x.network 0 x.node x.corners l.weight l.best) lines
@@ -69,7 +57,7 @@ module _ (x : Sample) (holds : Holds x) where
         record {
           headed = headed;
           counted = answers.corners_counted ∙ ap length same;
-          each = λ k h d. entry_says k h (get_or r.entries k d) (tells k h d);
+          each = λ k h d. entry_says x holds x.network refl x.node refl k h (get_or r.entries k d) (tells k h d);
           weighed = lines_same (weights_of c) r lines expected right answers.weights_kept weighs;
         }
 
@@ -91,7 +79,7 @@ module _ (x : Sample) (holds : Holds x) (bytes : List ℕ) (c : Contents) (file 
       (subst (λ n. Misfits (network_of c) 0 n f) ends
       (subst (λ s. Misfits (network_of c) s (target_of c) f) starts
       (subst (λ (d : Contents). Misfits (network_of d) (start_of d) (target_of d) f) same m.misfits))) in
-      never_stops hulls x.network holds.ruled 0 misfits.node misfits.segment misfits.stage (holds.fits misfits.node) misfits.stops
+      never_misfits x holds x.network refl x.node refl f misfits
 
   module _ (lines : List WeightLine) (expected : map weight_of lines ≡ weights_of c)
       (right : AllByRecursion (λ (l : WeightLine). Weighs x.network 0 x.node x.corners l.weight l.best) lines) where

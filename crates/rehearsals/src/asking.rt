@@ -4,7 +4,7 @@ ghost use Rattle.plan.specs.Answers.{CheapestIs};
 ghost use Rattle.polygons.specs.declared.cheapest.Cheapest.{Cheapest as Best};
 ghost use Rattle.rehearsals.specs.AtSamples.{AtSample};
 
-use crate::settling::settled;
+use corner_report::settled;
 use figures::count_routes;
 use kinds::Tally;
 use network::{Fault, Weight};
@@ -21,7 +21,7 @@ pub(crate) fn cheapest_at<S: Source + Drop>(
 ) -> Result<Cheapest, Fault>
     ensures { AtSample (S.Source.network source) v (λ x. (b : Best) → CheapestIs x.network 0 x.node x.corners weight b → result ≡ Ok b) }
 {
-    let plan = settled(source, v)?;
+    let plan = settled(source, 0, v)?;
     plan.cheapest(v, weight)
 }
 

@@ -5,7 +5,6 @@ mod answer;
 mod asking;
 mod grounds;
 mod reporting;
-mod settling;
 mod tables;
 mod telling;
 

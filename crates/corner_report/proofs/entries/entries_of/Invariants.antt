@@ -1,11 +1,10 @@
-use Rattle.std.proofs.Common.{◌≡◌, ◌≤◌, length}
-use Rattle.sources.specs.Tables.{table_network}
-use Rattle.corner_report.specs.Planned.{Entered, target_list}
+use Rattle.std.proofs.Common.{◌≡◌, length}
+use Rattle.plan.specs.Answers.{Settled}
+use Rattle.plan.specs.Standing.{progress}
+use Rattle.corner_report.specs.Planned.{Entered}
 use Rattle.corner_report.proofs.entries.entries_of.Given as goal
 
 abbrev pub invariant-loop-k : goal.invariant-loop-k
-invariant-loop-k l =
-    (l.count ≡ length (target_list l.header l.plan))
-    × (l.count ≤ 32)
-    × (length l.entries ≡ 32)
-    × Entered (table_network l.plan.source) l.header (target_list l.header l.plan) l.entries l.k
+invariant-loop-k g l =
+    (length l.entries ≡ 32)
+    × Settled (g.S.Source.network l.plan.source) (progress l.plan.state) l.v (λ s list. (l.count ≡ length list) × Entered (g.S.Source.network l.plan.source) s l.v list l.entries l.k)

@@ -10,5 +10,5 @@ best-requires c = (c.requires.planned, All-get_or LawfulWeight c.args.weights.no
 
 pub loop-i-preserved : goal.loop-i-preserved
 loop-i-preserved c =
-    lined_more (table_network c.args.plan.now.source) c.args.header.now (target_list c.args.header.now c.args.plan.now) c.args.weights.now c.loop-i.lines c.loop-i.i _ c.in_ok-best.field-0
+    lined_more (table_network c.args.plan.now.source) c.args.header.now.start c.args.header.now.target (target_list c.args.header.now c.args.plan.now) c.args.weights.now c.loop-i.lines c.loop-i.i _ c.in_ok-best.field-0
     c.loop-i-test.true c.requires.weighed.0 c.in_ok-best.ensures c.loop-i.invariant

@@ -1,13 +1,12 @@
-use Rattle.std.proofs.Common.{◌+◌, sym, ap, ◌∙◌, subst}
-use Rattle.network.specs.Networks.{Network}
-use Rattle.rehearsals.specs.AtSamples.{SettledTo}
-use Rattle.rehearsals.proofs.AtNode.{cheapest_told}
+use Rattle.std.proofs.Common.{sym, ap, ◌∙◌}
+use Rattle.rehearsals.proofs.AtNode.{cheapest_told, settles}
 use Rattle.rehearsals.proofs.asking.cheapest_at.Goals as goal
+
+pub returns-in_err-plan : goal.returns-in_err-plan
+returns-in_err-plan g c x holds same here b is =
+    absurd (settles x holds _ same c.args.v here c.in_err-plan.field-0.0 c.in_err-plan.ensures)
 
 pub returns : goal.returns
 returns g c x holds same here b is =
-    let σ = c.in_ok-plan.plan.state in
     let made = c.in_ok-plan.ensures in
-    let back = sym (ap g.S.Source.network made.0) in
-    let settled = subst (λ (N : Network). SettledTo N σ (c.args.v + 1)) back made.1 in
-    cheapest_told x holds _ (same ∙ back) c.args.v here σ settled c.args.weight b is c.cheapest.result c.cheapest.ensures
+    cheapest_told x holds _ (same ∙ sym (ap g.S.Source.network made.0)) c.args.v here c.in_ok-plan.plan.state made.1 c.args.weight b is c.cheapest.result c.cheapest.ensures
