@@ -8,7 +8,7 @@ use Rattle.plan.specs.declared.state.State.{State}
 use Rattle.plan.specs.Calls.{Right, AllRight, BeginningsRight, CallsAnswer}
 use Rattle.plan.specs.Changes.{Carried}
 use Rattle.plan.specs.Progress.{Progress, Answer, after_call, after_calls}
-use Rattle.plan.specs.Standing.{progress}
+use Rattle.plan.specs.Standing.{progress, Stands}
 
 -- a call more after a list of calls
 after_more : (p : Progress) (calls : List Call) (answers : List Answer) (c : Call) (a : Answer) → length calls ≡ length answers
@@ -32,9 +32,10 @@ pub record Answered (N : Network) (σ : State) (calls : List Call) (old : List S
   pub rest : drop i answers ≡ drop i before
   pub moved : progress τ ≡ after_calls (progress σ) (take i calls) (take i answers)
   pub right : AllRight N (progress σ) (take i calls) old (take i answers) steps
+  pub stands : Stands N σ → Stands N τ
 
 pub none_answered : (N : Network) (σ : State) (calls : List Call) (old : List Step) (before : List Answer) → Answered N σ calls old before before old σ 0
-none_answered N σ calls old before = record { long = refl; rest = refl; moved = refl; right = (refl, refl) }
+none_answered N σ calls old before = record { long = refl; rest = refl; moved = refl; right = (refl, refl); stands = λ h. h }
 
 module _ (N : Network) (σ : State) (calls : List Call) (old : List Step) (before : List Answer) where
   pub one_more : (answers : List Answer) (steps : List Step) (τ : State) (i : ℕ) (d : Call) (a : Answer) (new : List Step) (υ : State)
@@ -42,8 +43,9 @@ module _ (N : Network) (σ : State) (calls : List Call) (old : List Step) (befor
       → progress υ ≡ after_call (progress τ) (get_or calls i d) a
       → (M : Network) → M ≡ N
       → Right M (progress τ) (get_or calls i d) steps a new
+      → (Stands M τ → Stands M υ)
       → Answered N σ calls old before (set answers i a) new υ (i + 1)
-  one_more answers steps τ i d a new υ here room h moved M same right =
+  one_more answers steps τ i d a new υ here room h moved M same right stands =
       let inside : i < length answers = omega (arith, h.long) in
       let c = get_or calls i d in
       let calls_more : take (i + 1) calls ≡ take i calls ++ c ∷ [] = take_more calls i d here in
@@ -61,6 +63,7 @@ module _ (N : Network) (σ : State) (calls : List Call) (old : List Step) (befor
             (right_more N (progress σ) (take i calls) old (take i answers) steps c a new h.right
             (subst (λ (p : Progress). Right N p c steps a new) h.moved
             (subst (λ (K : Network). Right K (progress τ) c steps a new) same right))));
+        stands = λ begun. subst (λ (K : Network). Stands K τ → Stands K υ) same stands (h.stands begun);
       }
 
   pub all_carried : (answers : List Answer) (steps : List Step) (τ : State) (i : ℕ) → i ≡ length calls → Answered N σ calls old before answers steps τ i → Carried σ calls old before (Ok tt) answers steps τ

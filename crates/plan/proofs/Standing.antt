@@ -30,6 +30,10 @@ all_empty zero e h u = refl
 all_empty (suc n) e h zero = never_empty (corner_list e) h
 all_empty (suc n) e h (suc u) = all_empty n e h u
 
+-- a plan that stands over a network stands over the same network
+pub stands_over : {N M : Network} {σ : State} → N ≡ M → Stands N σ → Stands M σ
+stands_over {σ = σ} same h = subst (λ (K : Network). Stands K σ) same h
+
 -- where no node is settled and all lists are empty, a plan stands
 pub unsettled_stands : (N : Network) (σ : State) → σ.settled ≡ 0 → ((s : ℕ) → σ.start ≡ Some s → s < N.nodes) → ((u : ℕ) → list_of σ.lists u ≡ []) → Stands N σ
 unsettled_stands N σ none inside empty = record {

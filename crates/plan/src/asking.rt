@@ -13,7 +13,8 @@ impl<S: Source> Plan<S> {
     /// The polygon of a settled node, for a question whose weight, if it has one, is lawful or not. Refuses with 5 where
     /// there is no such node, with 8 where the weight is not lawful, with 20 where there is no start and with 22 where the
     /// node is not settled.
-    // The weight is tested between the node and the start, so what the test says is passed in.
+    // A truth value, and no weight: three of the four questions have none, and the fourth is refused for it between the node
+    // and the start.
     pub(crate) fn held(&self, v: usize, lawful: bool) -> Result<&Polygon, Fault>
         ensures { MatchResult result (λ x. Held (S.Source.network self.now.source) (progress self.now.state) v (lawful ≡ true) x.now) (λ f. Refused (S.Source.network self.now.source) (progress self.now.state) v (lawful ≡ true) (λ _ _. ⊥) f) }
     {
@@ -23,9 +24,7 @@ impl<S: Source> Plan<S> {
         if !lawful {
             return Err(Fault::WeightRange(0));
         }
-        let Some(_) = self.state.start else {
-            return Err(Fault::NoStart);
-        };
+        self.state.start.ok_or(Fault::NoStart)?;
         if v >= self.state.settled {
             return Err(Fault::NotSettled);
         }

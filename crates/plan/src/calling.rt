@@ -3,7 +3,7 @@ ghost use Rattle.std.specs.Prelude.{◌≡◌};
 ghost use Rattle.plan.specs.Calls.{Right, CallsAnswer};
 ghost use Rattle.plan.specs.Changes.{Carried};
 ghost use Rattle.plan.specs.Progress.{after_call};
-ghost use Rattle.plan.specs.Standing.{progress};
+ghost use Rattle.plan.specs.Standing.{progress, Stands};
 
 use crate::call::{Call, Reply};
 use crate::plan::Plan;
@@ -17,6 +17,7 @@ impl<S: Source> Plan<S> {
         ensures keeps_its_source { self.new.source ≡ self.old.source }
         ensures moves_on { progress self.new.state ≡ after_call (progress self.old.state) call result }
         ensures answers { Right (S.Source.network self.old.source) (progress self.old.state) call steps.old result steps.new }
+        ensures stands { Stands (S.Source.network self.old.source) self.old.state → Stands (S.Source.network self.old.source) self.new.state }
     {
         // A match, and not a table of functions: a call is a plain value, as a list of calls needs.
         match call {
@@ -45,6 +46,7 @@ impl<S: Source> Plan<S> {
         ensures keeps_its_source { self.new.source ≡ self.old.source }
         ensures moves_on { Carried self.old.state calls.now steps.old answers.old result answers.new steps.new self.new.state }
         ensures answers { CallsAnswer (S.Source.network self.old.source) (progress self.old.state) calls.now steps.old answers.old result answers.new steps.new }
+        ensures stands { Stands (S.Source.network self.old.source) self.old.state → Stands (S.Source.network self.old.source) self.new.state }
     {
         if answers.len() < calls.len() {
             return Err(Fault::NoRoom(0));

@@ -3,6 +3,7 @@ ghost use Rattle.std.specs.Prelude.{◌≡◌};
 ghost use Rattle.plan.specs.Calls.{CallsAnswer};
 ghost use Rattle.plan.specs.Changes.{CarriedFresh};
 ghost use Rattle.plan.specs.Progress.{fresh};
+ghost use Rattle.plan.specs.Standing.{Stands};
 
 use crate::call::{Call, Reply};
 use crate::plan::Plan;
@@ -29,6 +30,7 @@ pub fn carry_out<S: Source>(
     ensures holds_its_source { result.plan.source ≡ source }
     ensures moves_on { CarriedFresh calls.now answers.new result.outcome result.plan.state }
     ensures answers { CallsAnswer (S.Source.network source) fresh calls.now steps.old answers.old result.outcome answers.new steps.new }
+    ensures stands { Stands (S.Source.network source) result.plan.state }
 {
     let mut plan = Plan::new(source);
     let outcome = plan.calls(calls, answers, steps);

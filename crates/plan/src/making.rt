@@ -4,7 +4,7 @@ ghost use Rattle.traceback.specs.Tracing.{list_of};
 ghost use Rattle.plan.specs.Answers.{StartAnswer};
 ghost use Rattle.plan.specs.Changes.{Begun};
 ghost use Rattle.plan.specs.Progress.{fresh};
-ghost use Rattle.plan.specs.Standing.{progress};
+ghost use Rattle.plan.specs.Standing.{progress, Stands};
 
 use crate::plan::Plan;
 use crate::state::State;
@@ -31,6 +31,7 @@ impl<S: Source> Plan<S> {
     pub fn new(source: S) -> Plan<S>
         ensures holds_its_source { result.source ≡ source }
         ensures has_no_start { progress result.state ≡ fresh }
+        ensures stands { Stands (S.Source.network source) result.state }
     {
         Plan {
             source,

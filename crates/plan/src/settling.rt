@@ -36,9 +36,7 @@ impl<S: Source> Plan<S> {
         ensures keeps_its_source { self.new.source ≡ self.old.source }
         ensures replaces_one_list { Advanced self.old.state result self.new.state }
         ensures answers { SettleAnswer (S.Source.network self.old.source) (progress self.old.state) result }
-
-        // Every plan stands. Its type keeps that, and callers learn it here and of `start`.
-        ensures plan_stands { Stands (S.Source.network self.new.source) self.new.state }
+        ensures stands { Stands (S.Source.network self.old.source) self.new.state }
     {
         let list = self.next_list()?;
         let v = self.state.settled;

@@ -5,7 +5,7 @@ use Rattle.plan.specs.Progress.{advanced}
 use Rattle.plan.specs.PlanParts.{PlanParts}
 use Rattle.plan.specs.Standing.{progress}
 use Rattle.plan.proofs.NextNode.{found_settles}
-use Rattle.plan.proofs.Standing.{settled_stands}
+use Rattle.plan.proofs.Standing.{settled_stands, stands_over}
 use Rattle.plan.proofs.plan.Plan.settle.Goals as goal
 
 pub invariant_of-self : goal.invariant_of-self
@@ -23,5 +23,5 @@ returns g c =
           subst (λ (x : PlanParts _). (record { start = σ.start; settled = σ.settled + 1 } ≡ advanced (progress x.state)) × ((list : Polygon) × (set σ.lists σ.settled c.in_ok-list.list ≡ set x.state.lists x.state.settled list)))
           c.self.view_is (refl, (c.in_ok-list.list, refl));
       answers = found_settles _ (g.S.Source.ruled c.args.self.now.source) (progress c.args.self.now.state) c.in_ok-list.list c.in_ok-list.ensures;
-      plan_stands = invariant_of-self g c;
+      stands = stands_over (ap (λ (x : PlanParts _). g.S.Source.network x.source) c.self.view_is) (invariant_of-self g c);
     }
