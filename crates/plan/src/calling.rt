@@ -51,6 +51,7 @@ impl<S: Source> Plan<S> {
         if answers.len() < calls.len() {
             return Err(Fault::NoRoom(0));
         }
+        // By number, and not two slices at once: the proof of a loop over `zip` sees the iterator, and not what the answers hold.
         for (i, call) in calls.iter().enumerate() {
             answers[i] = self.call(*call, steps);
         }
