@@ -35,4 +35,3 @@ pub mod Results
 pub mod Existing
 pub mod Fitting
 pub mod Mapped
-pub mod MappedSums
