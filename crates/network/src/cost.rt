@@ -14,6 +14,7 @@ pub struct Cost {
     ghost pressure_within: { Within 1270000 pressure },
 }
 
+// By hand: the language derives no `Default` for a struct with ghost fields.
 impl Default for Cost {
     ghost use Rattle.std.specs.Prelude.{◌≡◌};
     ghost use Rattle.network.specs.Costs.{origin, point};
@@ -37,6 +38,7 @@ impl Cost {
     pub fn new(price: i32, pressure: i32) -> Option<Cost>
         ensures { MatchOption result (Bounded (record { price = price; pressure = pressure }) → ⊥) (λ c. point c ≡ record { price = price; pressure = pressure }) }
     {
+        // An `if`, and not `then`: its closure would need a clause that says the test again.
         if price.unsigned_abs() <= 1_270_000 && pressure.unsigned_abs() <= 1_270_000 {
             Some(Cost { price, pressure })
         } else {

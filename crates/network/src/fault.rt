@@ -49,10 +49,10 @@ pub enum Fault {
 
 impl Fault {
     /// The number under which the fault is reported.
-    // A table, and not a cast: the numbers have gaps, and most cases carry their place.
     pub fn number(&self) -> u8
         ensures { result ≡ number_of self.now }
     {
+        // A table, and not a cast: the numbers have gaps, and most cases carry their place.
         match self {
             Fault::CutShort(_) => 1,
             Fault::UnknownTag(_) => 2,

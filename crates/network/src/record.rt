@@ -10,12 +10,14 @@ use crate::size::{Size, all_apart, all_within};
 pub struct Record {
     pub tail: usize,
     pub head: usize,
-    // Eight places and how many are used, and not a list that grows: no call is to fail for want of memory.
+    // Eight places and a count, and not a list that grows: no call is to fail for want of memory. Nor an `ArrayVec`,
+    // which cannot be copied and never counts above its places.
     pub count: usize,
     pub sizes: [Size; 8],
     ghost room: { length sizes ≡ 8 },
 }
 
+// By hand: the language derives no `Default` for a struct with ghost fields.
 impl Default for Record {
     ghost use Rattle.std.specs.Prelude.{◌≡◌};
 
@@ -41,11 +43,7 @@ impl Record {
     pub fn choices(&self) -> &[Size]
         ensures { result.now ≡ choices self.now }
     {
-        if self.count < 8 {
-            &self.sizes[0..self.count]
-        } else {
-            &self.sizes
-        }
+        &self.sizes[..self.count.min(8)]
     }
 
     /// Whether the record may stand in a network of so many nodes. Refuses with 5 where its tail is not below
@@ -57,7 +55,7 @@ impl Record {
         if self.tail >= self.head || self.head >= nodes {
             return Err(Fault::BadNode(place));
         }
-        if self.count < 1 || self.count > 8 {
+        if !(1..=8).contains(&self.count) {
             return Err(Fault::ChoiceCount(place));
         }
         if !all_within(self.choices(), 10_000) {

@@ -30,13 +30,8 @@ impl Segment {
     pub fn choice(&self, k: usize) -> Option<Choice>
         ensures { MatchOption result (self.now.listed.count ≤ k) (λ c. (k < self.now.listed.count) × (c.size ≡ choice_at (choices self.now.listed) k)) }
     {
-        if k < self.listed.count {
-            Some(Choice {
-                size: self.listed.sizes[k],
-            })
-        } else {
-            None
-        }
+        let size = self.listed.choices().get(k)?;
+        Some(Choice { size: *size })
     }
 
     /// All choices, in order.

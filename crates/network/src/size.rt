@@ -1,5 +1,5 @@
 //! A stock size as it is listed.
-ghost use Rattle.std.specs.Prelude.{◌≢◌, All, Decides};
+ghost use Rattle.std.specs.Prelude.{All, Decides};
 ghost use Rattle.network.specs.Choices.{InRange, SizeWithin, Apart};
 
 /// A stock size: its price in whole currency units and its pressure loss in pascals, unchecked. The default costs
@@ -33,19 +33,12 @@ pub fn all_within(sizes: &[Size], bound: u32) -> bool
     sizes.iter().all(|size| size.is_within(bound))
 }
 
-/// Whether a size is none of these.
-fn is_new(sizes: &[Size], size: &Size) -> bool
-    ensures { Decides result (All (λ z. z ≢ size.now) sizes.now) }
-{
-    sizes.iter().all(|other| other != size)
-}
-
 /// Whether no two sizes are the same.
 pub fn all_apart(sizes: &[Size]) -> bool
     ensures { Decides result (Apart sizes.now) }
 {
     for (j, size) in sizes.iter().enumerate() {
-        if !is_new(&sizes[..j], size) {
+        if sizes[..j].contains(size) {
             return false;
         }
     }

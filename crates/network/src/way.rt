@@ -15,6 +15,7 @@ pub struct Way {
 }
 
 /// A ray of weights: all that are a positive multiple of one. The default is no direction at all.
+// A point among weights and a direction: one type would let one pass for the other.
 #[derive(Clone, Copy, Debug, Default, PartialEq, Eq)]
 pub struct Ray {
     pub a: i32,
