@@ -36,7 +36,7 @@ impl<'a> Iterator for Pieces<'a> {
         let [high, low, more @ ..] = self.rest else {
             return None;
         };
-        let length = usize::from(*high) * 256 + usize::from(*low);
+        let length = usize::from(u16::from_be_bytes([*high, *low]));
         let Some((piece, after)) = more.split_at_checked(length) else {
             self.rest = &more[more.len()..];
             return Some(Err(CutShort));
