@@ -11,29 +11,23 @@ framed_whole t h l v small e =
     let low : length v % 256 ≡ l = omega arith in
     cc
 
-zeros : ℕ → List ℕ
-zeros n = replicate n 0
-
-zeros_long : (n : ℕ) → length (zeros n) ≡ n
-unfolding zeros
-zeros_long n = length-replicate n 0
-
 -- fewer bytes than a tag and a length: zeros complete them
 pub torn_early : (b : List ℕ) → ((i : ℕ) → get_or b i 0 < 256) → length b < 3 → Torn b
 torn_early [] byte h = record { tag = 0; held = []; more = 0 ∷ 0 ∷ 0 ∷ []; missing = omega arith; short = omega arith; whole = refl }
 torn_early (t ∷ []) byte h = record { tag = t; held = []; more = 0 ∷ 0 ∷ []; missing = omega arith; short = omega arith; whole = refl }
 torn_early (t ∷ u ∷ []) byte h =
-    let long = zeros_long (u * 256) in
+    let gap : List ℕ = replicate (u * 256) 0 in
+    let long : length gap ≡ u * 256 = length-replicate (u * 256) 0 in
     let small : u < 256 = byte 1 in
     let zero : 0 < 256 = omega arith in
-    let exact : length (zeros (u * 256)) ≡ u * 256 + 0 = omega arith in
+    let exact : length gap ≡ u * 256 + 0 = omega arith in
     record {
       tag = t;
-      held = zeros (u * 256);
-      more = 0 ∷ zeros (u * 256);
+      held = gap;
+      more = 0 ∷ gap;
       missing = omega arith;
       short = omega arith;
-      whole = framed_whole t u 0 (zeros (u * 256)) zero exact;
+      whole = framed_whole t u 0 gap zero exact;
     }
 torn_early (t ∷ u ∷ v ∷ b) byte h = absurd (omega arith)
 
@@ -46,8 +40,8 @@ torn_late (t ∷ u ∷ l ∷ v) byte three h =
     let high : u < 256 = byte 1 in
     let low : l < 256 = byte 2 in
     let left = ap length (take_rest (t ∷ u ∷ l ∷ v) 3) in
-    let gap = zeros (u * 256 + l - length v) in
-    let long = zeros_long (u * 256 + l - length v) in
+    let gap = replicate (u * 256 + l - length v) 0 in
+    let long : length gap ≡ u * 256 + l - length v = length-replicate (u * 256 + l - length v) 0 in
     let both = length-append v gap in
     let exact : length (v ++ gap) ≡ u * 256 + l = omega arith in
     record {

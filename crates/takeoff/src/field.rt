@@ -18,7 +18,8 @@ pub(crate) fn first_field(bytes: &[u8]) -> Option<Cut<'_>>
     let [tag, hi, lo, rest @ ..] = bytes else {
         return None;
     };
-    let (body, rest) = rest.split_at_checked(usize::from(*hi) * 256 + usize::from(*lo))?;
+    let length = u16::from_be_bytes([*hi, *lo]);
+    let (body, rest) = rest.split_at_checked(usize::from(length))?;
     Some(Cut {
         tag: *tag,
         body,

@@ -28,7 +28,7 @@ impl Header {
         ensures answer { MatchResult result (λ _. Counted nodes) (λ f. (f ≡ BadNode at) × (Counted nodes → ⊥)) }
         ensures header { OnOk result (self.new ≡ counted self.old (ItemIs.Nodes nodes)) }
     {
-        if nodes < 1 || nodes > 128 {
+        if !(1..=128).contains(&nodes) {
             return Err(Fault::BadNode(at));
         }
         self.nodes = nodes;

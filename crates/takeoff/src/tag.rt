@@ -40,7 +40,7 @@ impl Tag {
     {
         match self {
             Tag::Nodes => length == 1,
-            Tag::Segment => length >= 6 && length <= 34 && length % 4 == 2,
+            Tag::Segment => (6..=34).contains(&length) && length % 4 == 2,
             Tag::Points => length == 2,
             Tag::Weight => length == 8,
         }
