@@ -14,7 +14,8 @@ use network::{Fault, Record, Segment};
 #[derive(Clone, Copy, Debug)]
 pub struct Table {
     pub(crate) nodes: usize,
-    // So many places and how many are used, and not a list that grows: no call is to fail for want of memory.
+    // 1,024 places and how many are used, and not a list that grows: no call is to fail for want of memory. Nor an
+    // `ArrayVec`, which cannot be copied.
     pub(crate) count: usize,
     pub(crate) records: [Record; 1024],
     ghost some: { 1 ≤ nodes },
@@ -32,7 +33,7 @@ pub struct Table {
 fn check(nodes: usize, records: &[Record]) -> Result<(), Fault>
     ensures { MatchResult result (λ _. Accepted nodes records.now) (λ f. (p : ℕ) × (place f ≡ At p) × Rejected nodes records.now (number f) p) }
 {
-    if nodes < 1 || nodes > 128 {
+    if !(1..=128).contains(&nodes) {
         return Err(Fault::BadNode(0));
     }
     if records.len() > 1024 {
@@ -44,6 +45,7 @@ fn check(nodes: usize, records: &[Record]) -> Result<(), Fault>
     Ok(())
 }
 
+// By hand: the language derives no `Default` for a struct with ghost fields.
 impl Default for Table {
     ghost use Rattle.std.specs.Prelude.{◌≡◌, []};
     ghost use Rattle.sources.specs.Tables.{listed, table_network};
