@@ -9,7 +9,7 @@ use sources::Source;
 #[derive(Debug, Drop)]
 pub struct Closing<S> {
     pub(crate) below: S,
-    // So many places and how many are used, and not a list that grows: no call is to fail for want of memory.
+    // Sixteen places and how many are used, and not a list that grows: no call is to fail for want of memory.
     pub(crate) closed: [usize; 16],
     pub(crate) count: usize,
     ghost short: { count ≤ 16 },

@@ -17,7 +17,8 @@ use sources::{Source, overwrite_front};
 pub struct Grid {
     pub(crate) width: usize,
     pub(crate) height: usize,
-    // So many places and how many are used, and no lists that grow: no call is to fail for want of memory.
+    // 128 places and 8, and how many are used, and no lists that grow: no call is to fail for want of memory. Nor
+    // an `ArrayVec` each, which cannot be copied.
     pub(crate) cells: [Cell; 128],
     pub(crate) count: usize,
     pub(crate) sizes: [Size; 8],
@@ -65,6 +66,7 @@ fn check(width: usize, height: usize, cells: &[Cell], sizes: &[Size]) -> Result<
     Ok(())
 }
 
+// By hand: the language derives no `Default` for a struct with ghost fields.
 impl Default for Grid {
     ghost use Rattle.std.specs.Prelude.{◌≡◌, [], ◌∷◌, pos};
     ghost use Rattle.grids.specs.declared.cell.Cell.TheVariants.{Open};

@@ -12,6 +12,7 @@ pub struct Amount {
     ghost bounded: { Within 15240000000000 units },
 }
 
+// By hand: the language derives no `Default` for a struct with ghost fields.
 impl Default for Amount {
     ghost use Rattle.std.specs.Prelude.{◌≡◌, pos};
 
@@ -31,6 +32,7 @@ impl Amount {
         ensures { MatchOption result (Within 15240000000000 (self.now.units +ℤ other.now.units) → ⊥) (λ a. a.units ≡ self.now.units +ℤ other.now.units) }
     {
         let units = self.units + other.units;
+        // An `if`, and not `then`: its closure would need a clause that says the test again.
         if units.unsigned_abs() <= 15_240_000_000_000 {
             Some(Amount { units })
         } else {

@@ -8,6 +8,7 @@ pub struct Tally {
     ghost few: { count ≤ 1000000 },
 }
 
+// By hand: the language derives no `Default` for a struct with ghost fields.
 impl Default for Tally {
     ghost use Rattle.std.specs.Prelude.{◌≡◌};
 
@@ -27,6 +28,7 @@ impl From<u64> for Tally {
 
     /// The tally of so many, cut at 1,000,000.
     fn from(many: u64) -> Tally {
+        // A cast, which loses nothing here: `try_from` would ask for an answer where the number does not fit.
         Tally {
             count: many.min(1_000_000) as u32,
         }

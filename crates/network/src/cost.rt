@@ -6,7 +6,7 @@ use std::fmt::{Display, Formatter};
 
 /// A cost: a price in whole currency units and a pressure loss in pascals.
 /// Each lies within ±1,270,000, which is what 127 steps of at most 10,000 come to.
-#[derive(Clone, Copy, Debug, PartialEq, Eq)]
+#[derive(Clone, Copy, Debug, PartialEq, Eq, PartialOrd, Ord)]
 pub struct Cost {
     pub price: i32,
     pub pressure: i32,
