@@ -26,11 +26,7 @@ fn lesser(p: Cost, q: Cost) -> Cost
     ensures below_first { (place p ≡ place result) ⊎ Lex (place result) (place p) }
     ensures below_second { (place q ≡ place result) ⊎ Lex (place result) (place q) }
 {
-    if (q.price, q.pressure) < (p.price, p.pressure) {
-        q
-    } else {
-        p
-    }
+    p.min(q)
 }
 
 /// The hull of two polygons, each with a corner, by gift wrapping over both lists of corners.

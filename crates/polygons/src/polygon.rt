@@ -13,7 +13,8 @@ use network::{Cost, Ray, Way};
 /// and of those the least pressure. Two corners are a line, one is a point, and none is nothing at all.
 #[derive(Clone, Copy, Debug)]
 pub struct Polygon {
-    // Thirty-two places and how many are used, and not a list that grows: no call is to fail for want of memory.
+    // Thirty-two places and how many are used, and not a list that grows: no call is to fail for want of memory. Nor an
+    // `ArrayVec`, which cannot be copied.
     pub(crate) corners: [Cost; 32],
     pub(crate) count: usize,
     ghost few: { count ≤ 32 },
@@ -25,6 +26,7 @@ pub struct Polygon {
     ghost lowest: { Lowest (places (take count corners)) },
 }
 
+// By hand: the language derives no `Default` for a struct with ghost fields.
 impl Default for Polygon {
     ghost use Rattle.std.specs.Prelude.{[]};
     ghost use Rattle.polygons.specs.Corners.{corner_list};

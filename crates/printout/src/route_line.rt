@@ -18,6 +18,7 @@ pub struct RouteLine {
     ghost room: { length steps ≡ 128 },
 }
 
+// By hand: the language derives no `Default` for a struct with ghost fields.
 impl Default for RouteLine {
     ghost use Rattle.std.specs.Prelude.{◌≡◌};
 

@@ -34,7 +34,7 @@ returns-then-in_line-clause-yes c = λ e. record {
   why = inr (inr (c.in_line.ensures.0 c.if-in_line.true, farther_on _ _ _ (c.farther.ensures.0 e)));
 }
 
--- b is another point than p, and s is not to the right of it
+-- b is another point than p, and s is not to the right of the way from p to b
 onward : (c : Else-right_of) → (¬ (place c.args.b ≡ place c.args.p)) × (¬ (orient (place c.args.p) (place c.args.b) (place c.args.s) <ℤ pos 0))
 onward c = elim c.if-eq.branch [
   | then-eq w ↦ absurd (false≢true (sym c.if-right_of.false ∙ w.value-is ∙ w.if-eq.true))
