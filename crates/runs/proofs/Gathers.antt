@@ -1,6 +1,9 @@
 -- What a node gathers, segment by segment. Assumes nothing.
-use Rattle.std.proofs.Common.{◌≡◌, ℕ, zero, suc, ◌+◌, ◌<◌, true, false, eqb, ◌≢◌, ◌⊎◌, List, [], ◌∷◌, map, length, get_or, Some, None, Err, Option, sym, refl, ap, ◌∙◌, subst, inl, inr, arith, below_more}
+use Rattle.std.proofs.Common.{◌≡◌, ℕ, suc, ◌+◌, ◌<◌, true, false, eqb, ◌≢◌, ◌⊎◌, List, map, length, get_or, Some, None, Ok, Err, MatchResult, Option, Result, sym, refl, ap, ◌∙◌, subst, inl, inr, arith, below_more}
 use Rattle.std.proofs.lemmas.Bool.Decides.{eqb_tells}
+use Rattle.std.proofs.lemmas.List.{get_or-map}
+use Rattle.std.specs.Result.{IsErrAnd}
+use Rattle.network.specs.declared.fault.Fault.{Fault}
 use Rattle.network.specs.declared.fault.Stage.{Stage}
 use Rattle.network.specs.declared.fault.Stage.TheVariants as stage
 use Rattle.network.specs.Networks.{Network, Arc, Ruled, at}
@@ -16,9 +19,17 @@ use Rattle.runs.specs.Steps.{Taken}
 
 -- the value that a cell means
 pub read_means : {V C : Type 0} (f : V → C) (xs : List V) (i : ℕ) (r : V) (d : C) → i < length xs → r ≡ get_or xs i r → f r ≡ get_or (map f xs) i d
-read_means f [] i r d h e = absurd (omega arith)
-read_means f (x ∷ xs) zero r d h e = ap f e
-read_means f (x ∷ xs) (suc i) r d h e = read_means f xs i r d (omega arith) e
+read_means f xs i r d h e = ap f e ∙ sym (get_or-map f xs i r d h)
+
+-- an answer t of which P holds, and r, where Made says which fault a stage in t is made into
+module _ {V : Type 0} (P : Result V Stage → Type 0) (Made : Stage → Fault → Type 0) where
+  pub refused : (t : Result V Stage) (r : Result V Fault) (f : Fault) → r ≡ Err f → P t → MatchResult t (λ x. r ≡ Ok x) (λ st. IsErrAnd r (Made st)) → (st : Stage) × Made st f × P (Err st)
+  refused (Ok x) r f is p same = let z : Err f ≡ Ok x = sym is ∙ same in absurd cc
+  refused (Err st) r f is p made = (st, subst (λ s. IsErrAnd s (Made st)) is made, p)
+
+  pub went_on : (t : Result V Stage) (r : Result V Fault) (x : V) → r ≡ Ok x → P t → MatchResult t (λ y. r ≡ Ok y) (λ st. IsErrAnd r (Made st)) → P (Ok x)
+  went_on (Ok y) r x is p same = let q : y ≡ x = cc in subst (λ z. P (Ok z)) q p
+  went_on (Err st) r x is p made = absurd (subst (λ s. IsErrAnd s (Made st)) is made)
 
 pub rising : {N : Network} → Ruled N → (e : ℕ) (a : Arc) → Some a ≡ at N e → a.tail < a.head
 rising ruled e a h = ruled.rises e a (sym h)

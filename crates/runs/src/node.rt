@@ -17,6 +17,7 @@ fn beginning<K: Kind>(kind: &K, start: usize, v: usize) -> K::Value
 }
 
 /// What node `v` gathers from the segments into it, in number order.
+// Kind, source and start stand side by side here and below, as at `run`: a struct would borrow the first two for one call.
 fn gather<K: Kind, S: Source>(
     kind: &K,
     source: &S,
@@ -31,11 +32,9 @@ fn gather<K: Kind, S: Source>(
     // A source is asked number by number; no array is gone over.
     for e in 0..source.segments() {
         if let Some(segment) = source.entering(e, v) {
-            // A `map_err` would hide from the proof which fault its closure makes.
-            match take_segment(kind, &segment, &held[segment.listed.tail], &sum) {
-                Ok(more) => sum = more,
-                Err(stage) => return Err(Fault::Misfit(v, e, stage)),
-            }
+            sum = take_segment(kind, &segment, &held[segment.listed.tail], &sum).map_err(
+                move |stage| Fault::Misfit(v, e, stage),
+            )?;
         }
     }
     Ok(sum)

@@ -8,7 +8,6 @@ pub struct Sheet<'a, T> {
 }
 
 /// Writes a cell, if it is there.
-// A truth value, and not a Result: there is no fault to name, and a run that has tested the length has nothing to pass on.
 fn store<T: Drop>(cells: &mut [T], v: usize, x: T) -> bool
     ensures writes { cells.new ≡ slice_set cells.old v x }
     ensures tells { Decides result (v < length cells.old) }
@@ -58,6 +57,7 @@ impl<'a, T: Drop> Sheet<'a, T> {
     }
 
     /// Writes the value at node `v`. Past the end it answers false, and nothing changes.
+    // A truth value, and not a Result: there is no fault to name, and a run that has tested the length has nothing to pass on.
     pub fn put(&mut self, v: usize, x: T) -> bool
         ensures lent { self.new.cells.ghost_name ≡ self.old.cells.ghost_name }
         ensures writes { self.new.cells.now ≡ slice_set self.old.cells.now v x }
