@@ -1,6 +1,6 @@
 -- The steps taken back, in the other order. Assumes nothing.
 use Rattle.std.proofs.Common.{◌≡◌, ℕ, ◌≤◌, List, reverse, length, take, refl, ◌∙◌, arith}
-use Rattle.std.proofs.lemmas.List.{length-reverse, length-take}
+use Rattle.std.proofs.lemmas.List.{length-reverse, length-take-le}
 use Rattle.network.specs.declared.step.Step.{Step}
 use Rattle.network.specs.Costs.{Point}
 use Rattle.network.specs.Networks.{Network}
@@ -9,9 +9,6 @@ use Rattle.traceback.specs.Tracing.{Listed, TracedRoute}
 use Rattle.traceback.specs.WorkingBack.{Back}
 use Rattle.traceback.proofs.LastSteps.{back_leads}
 
-taken_long : (n : ℕ) (steps : List Step) → n ≤ length steps → length (take n steps) ≡ n
-taken_long n steps l = simp length-take (omega arith)
-
 -- the steps taken back, in the other order, are the route
 pub traced_route : (N : Network) (s : ℕ) (lists : List Polygon) (v : ℕ) (p : Point) (xs : List Step) → Back N (Listed lists) s v p xs → TracedRoute N s lists v p (reverse xs)
 traced_route N s lists v p xs back =
@@ -19,4 +16,4 @@ traced_route N s lists v p xs back =
     record { works_back = record { backward = xs; taken = back; in_order = refl }; leads = r.0; costs = r.1 }
 
 pub route_long : (n : ℕ) (steps : List Step) → n ≤ length steps → length (reverse (take n steps)) ≡ n
-route_long n steps l = length-reverse (take n steps) ∙ taken_long n steps l
+route_long n steps l = length-reverse (take n steps) ∙ length-take-le n steps l

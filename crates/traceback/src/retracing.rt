@@ -31,6 +31,7 @@ pub(crate) fn retrace<S: Source>(
     let mut steps = [Step::default(); 128];
     let mut count = 0;
     let mut node = v;
+    // Each step names the node before it, so how many there are is known only at the start.
     let mut left = corner;
     while node != start {
         let back = step_back(source, lists, node, &left)?;
@@ -39,9 +40,5 @@ pub(crate) fn retrace<S: Source>(
         node = back.tail;
         left = back.corner;
     }
-    if left == Cost::default() {
-        Some(Trail { count, steps })
-    } else {
-        None
-    }
+    (left == Cost::default()).then_some(Trail { count, steps })
 }
