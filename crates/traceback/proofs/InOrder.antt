@@ -1,5 +1,5 @@
 -- The steps taken back, in the other order. Assumes nothing.
-use Rattle.std.proofs.Common.{◌≡◌, ℕ, ◌≤◌, List, reverse, length, take, refl, ◌∙◌, arith}
+use Rattle.std.proofs.Common.{◌≡◌, ℕ, ◌≤◌, List, reverse, length, take, refl, ◌∙◌}
 use Rattle.std.proofs.lemmas.List.{length-reverse, length-take-le}
 use Rattle.network.specs.declared.step.Step.{Step}
 use Rattle.network.specs.Costs.{Point}

@@ -1,9 +1,8 @@
--- What is known at each turn of the three searches, and when they end. Assumes nothing.
+-- What is known at each turn of the searches, and when they end. Assumes nothing.
 use Rattle.std.proofs.Common.{◌≡◌, ℕ, zero, suc, ◌+◌, ◌<◌, ◌≤◌, ◌≢◌, List, [], ◌∷◌, get_or, Some, None, map, length, pos, MatchOption, Option, sym, refl, ap, ◌∙◌, subst, ⊎_elim, arith, below_more}
 use Rattle.std.proofs.lemmas.List.{get_or-map, length-map}
 use Rattle.std.specs.List.{AllWithin, HoldsAt}
 use Rattle.network.specs.declared.cost.Cost.{Cost}
-use Rattle.network.specs.declared.size.Size.{Size}
 use Rattle.network.specs.Choices.{choice}
 use Rattle.network.specs.Costs.{Point, plus, point, size_cost}
 use Rattle.network.specs.Networks.{Network, Arc, Ruled, at}
@@ -43,27 +42,6 @@ module _ (list : List Pt) (corners : List Cost) (same : map place corners ≡ li
       let l : i < length corners = omega (arith, as_long, meets.corner.within) in
       let is : point (get_or corners i nothing) ≡ q = ap cost_at (sym (at_place i nothing l) ∙ meets.corner.here) in
       none i nothing (omega arith) l (ap (λ (x : Point). plus x d) is ∙ meets.adds)
-
--- the corners of a list, the choices of a segment, and what is left
-module _ (list : List Pt) (sizes : List Size) (p : Point) where
-  abbrev Fails : ℕ → Type 0
-  Fails k = (q : Point) → Meets list (size_cost (choice sizes k)) p q → ⊥
-
-  -- no choice before k serves
-  abbrev pub Unchosen : ℕ → Type 0
-  Unchosen k = (j : ℕ) → j < k → Fails j
-
-  pub unchosen_more : (k : ℕ) (z : Size) → z ≡ choice sizes k → Matched list (size_cost z) p None → Unchosen k → Unchosen (k + 1)
-  unchosen_more k z is none before = below_more Fails k before (subst (λ y. Matched list (size_cost y) p None) is none)
-
-  -- choice k, whose size is z, is the lowest that serves
-  pub chosen : (k : ℕ) (q : Point) {n : ℕ} → n ≡ k → k < length sizes → (z : Size) → z ≡ choice sizes k → Meets list (size_cost z) p q → Unchosen k → Chooses list sizes p n q
-  chosen k q {n = n} same l z is meets before =
-      subst (λ i. Chooses list sizes p i q) (sym same)
-      (record { within = l; meets = subst (λ (y : Size). Meets list (size_cost y) p q) is meets; lowest = before })
-
-  pub none_chosen : (k : ℕ) → length sizes ≤ k → Unchosen k → ChosenFrom list sizes p None
-  none_chosen k all before j l = before j (omega arith)
 
 -- a number beyond the list is no segment's
 present : (xs : List (Option Arc)) (e : ℕ) (a : Arc) → get_or xs e None ≡ Some a → e < length xs

@@ -19,10 +19,8 @@ pub(crate) struct Chosen {
 pub(crate) fn lowest_choice(list: &Polygon, segment: &Segment, left: &Cost) -> Option<Chosen>
     ensures { ChosenFrom (corner_list list.now) (choices segment.now.listed) (point left.now) result }
 {
-    for (k, choice) in segment.choices().enumerate() {
-        if let Some(corner) = corner_before(list, &choice, left) {
-            return Some(Chosen { choice: k, corner });
-        }
-    }
-    None
+    segment.choices().enumerate().find_map(|(choice, made)| {
+        let corner = corner_before(list, &made, left)?;
+        Some(Chosen { choice, corner })
+    })
 }

@@ -18,6 +18,8 @@ pub(crate) struct Trail {
 
 /// The steps taken back from node `v`, where `corner` is left, to the start, where nothing is left; none where no step
 /// serves somewhere on the way, or something is left at the start.
+// Source, lists and node stand side by side here, in `trace` and in `step_back`: a struct would borrow the first two for one
+// call, and the node is another one at each step.
 pub(crate) fn retrace<S: Source>(
     source: &S,
     lists: &[Polygon; 128],

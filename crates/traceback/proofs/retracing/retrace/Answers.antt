@@ -37,14 +37,14 @@ pub returns : goal.returns
 returns g c =
     subst (Retraced (g.S.Source.network c.args.source.now) c.args.start c.args.lists.now c.args.v (point c.args.corner)) (sym c.then_some.ensures) (home (Retraced (g.S.Source.network c.args.source.now) c.args.start c.args.lists.now c.args.v (point c.args.corner)) c.eq.result _
     (λ same.
-        let none_left : point c.loop-node.left ≡ origin = search (rules, tests) in
-        all_back (g.S.Source.ruled c.args.source.now) c.args.start c.args.lists.now c.args.v (point c.args.corner) c.loop-node.count c.loop-node.steps c.loop-node.node (point c.loop-node.left)
-        c.loop-node-test.false none_left c.loop-node.invariant)
+    let none_left : point c.loop-node.left ≡ origin = search (rules, tests) in
+    all_back (g.S.Source.ruled c.args.source.now) c.args.start c.args.lists.now c.args.v (point c.args.corner) c.loop-node.count c.loop-node.steps c.loop-node.node (point c.loop-node.left)
+    c.loop-node-test.false none_left c.loop-node.invariant)
     (λ other.
-        let some_left : point c.loop-node.left ≢ origin = search (rules, tests) in (
-          no_way_home (g.S.Source.ruled c.args.source.now) c.args.start c.args.lists.now c.args.v (point c.args.corner) c.loop-node.count c.loop-node.steps c.loop-node.node (point c.loop-node.left)
-              c.loop-node-test.false some_left c.loop-node.invariant,
-          λ right h. some_left
-              (nothing_left (g.S.Source.ruled c.args.source.now) c.args.start c.args.lists.now c.args.v (point c.args.corner) c.loop-node.count c.loop-node.steps c.loop-node.node (point c.loop-node.left)
-              c.loop-node-test.false c.loop-node.invariant right h),
-        )))
+    let some_left : point c.loop-node.left ≢ origin = search (rules, tests) in (
+      no_way_home (g.S.Source.ruled c.args.source.now) c.args.start c.args.lists.now c.args.v (point c.args.corner) c.loop-node.count c.loop-node.steps c.loop-node.node (point c.loop-node.left)
+          c.loop-node-test.false some_left c.loop-node.invariant,
+      λ right h. some_left
+          (nothing_left (g.S.Source.ruled c.args.source.now) c.args.start c.args.lists.now c.args.v (point c.args.corner) c.loop-node.count c.loop-node.steps c.loop-node.node (point c.loop-node.left)
+          c.loop-node-test.false c.loop-node.invariant right h),
+    )))
