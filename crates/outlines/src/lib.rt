@@ -29,17 +29,14 @@ pub(crate) fn around(pairs: &[Pair]) -> Option<Polygon> {
 
 /// Whether there is a polygon and these are its corners, in this order.
 pub(crate) fn lists(polygon: Option<Polygon>, pairs: &[Pair]) -> bool {
-    match polygon {
-        Some(polygon) => {
-            let corners = polygon.corners();
-            corners.len() == pairs.len()
-                && corners
-                    .iter()
-                    .zip(pairs)
-                    .all(|(cost, pair)| (cost.price, cost.pressure) == *pair)
-        }
-        None => false,
-    }
+    polygon.is_some_and(|polygon| {
+        let corners = polygon.corners();
+        corners.len() == pairs.len()
+            && corners
+                .iter()
+                .zip(pairs)
+                .all(|(cost, pair)| (cost.price, cost.pressure) == *pair)
+    })
 }
 
 /// The parts of a corner's two rays; none where there is no polygon or no such corner.
@@ -49,6 +46,7 @@ pub(crate) fn rays(polygon: Option<Polygon>, k: usize) -> Option<[i32; 4]> {
 }
 
 /// The corner list of a node, as a run from node 0 leaves it, whether or not the run is refused.
+// The sheet is made and read here: no library answers one node of a run that is refused.
 pub(crate) fn corners_at<S: Source>(source: &S, v: usize) -> Option<Polygon> {
     let mut cells = [Polygon::default(); 128];
     let mut sheet = Sheet::over(&mut cells);
@@ -59,16 +57,16 @@ pub(crate) fn corners_at<S: Source>(source: &S, v: usize) -> Option<Polygon> {
 /// The table of segments e to e + 1, each with the choices (0, 0) and (1, e + 1).
 pub(crate) fn ladder() -> Table {
     let mut records = [Record::default(); 17];
-    // Record e is segment e, so its number is its place.
-    for e in 0..17usize {
+    for (e, record) in (0u8..17).zip(&mut records) {
         let mut sizes = [Size::default(); 8];
         sizes[1] = Size {
             price: 1,
-            pressure: e as i32 + 1,
+            pressure: i32::from(e) + 1,
         };
-        records[e] = Record {
-            tail: e,
-            head: e + 1,
+        let tail = usize::from(e);
+        *record = Record {
+            tail,
+            head: tail + 1,
             count: 2,
             sizes,
         };

@@ -13,6 +13,7 @@ use runs::Sheet;
 use sources::Source;
 
 /// How many routes lead from one node to another; none where the sheet has no such node.
+// Figures answers one node of the least cost alone, which its report asks for: the number of routes at one node is read here.
 pub(crate) fn routes<S: Source>(
     source: &S,
     start: usize,
