@@ -11,6 +11,8 @@ use std::io::Read;
 use takeoff::read;
 
 /// The call that thirteen bytes say: its kind, four small numbers, and the two parts of a weight.
+// A function, and no `From`: both types are of other crates. The kind is matched as the byte that it is: the six numbers and
+// the rest stand for calls here alone.
 fn call_of(bytes: &[u8; 13]) -> Call {
     let [kind, v, k, from, long, a0, a1, a2, a3, b0, b1, b2, b3] = *bytes;
     let v = usize::from(v);
@@ -64,6 +66,7 @@ fn print_place(rt: &HostRuntime, steps: &[Step]) -> io::Result<()> {
 }
 
 /// Prints the answers to a list of calls over the table, and then what the steps hold.
+// The first 64 calls of a list are answered, and so many places hold them: a list that grows would have to be cut to 64.
 fn print_calls(rt: &HostRuntime, table: Table, encoded: &[u8]) -> io::Result<()> {
     let mut calls = [Call::Settle; 64];
     let count = decode(encoded, &mut calls);
@@ -104,7 +107,7 @@ fn print_all(rt: &HostRuntime, bytes: &[u8]) -> io::Result<()> {
     // The sessions are numbered by hand: an iterator of their own for this one loop would be longer and no plainer.
     let mut number = 0u32;
     while let [high, low, count, more @ ..] = rest {
-        let length = usize::from(*high) * 256 + usize::from(*low);
+        let length = usize::from(u16::from_be_bytes([*high, *low]));
         let size = usize::from(*count) * 13;
         if more.len() < length + size {
             return println!(rt; "cut short");
