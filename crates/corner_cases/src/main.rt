@@ -6,8 +6,8 @@ use std::io;
 use std::io::Read;
 use stored::Pieces;
 
-// `cases` prints another report in the same way: one function for both would be passed the report's own function and a
-// bound for its text, which is no plainer than these few lines.
+// `cases` is this file with the other report. What both share would stand in a library and be public, and each public
+// function promises what it does: of printing nothing can be promised, since std's `print` has no contract.
 
 /// Prints the answer to one takeoff.
 fn print_answer(rt: &HostRuntime, takeoff: &[u8]) -> io::Result<()> {

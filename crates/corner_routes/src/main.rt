@@ -9,6 +9,8 @@ use std::io::Read;
 const LIMIT: u64 = 40_000;
 
 /// Reads the input, and prints its report or the one line that refuses it.
+// `routes` is this file with the other report. What both share would stand in a library and be public, and each public
+// function promises what it does: of printing nothing can be promised, since std's `print` has no contract.
 fn answer(rt: &HostRuntime) -> io::Result<()> {
     let mut bytes = Vec::new(rt.alloc());
     rt.stdin().take(LIMIT).read_to_end(&mut bytes)?;

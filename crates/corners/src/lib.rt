@@ -16,6 +16,7 @@ use sources::Source;
 /// anticlockwise from the least price. Refuses with 5 where the start is no node and with 10 where the sheet is shorter
 /// than the nodes, and leaves the sheet as it was. Ends with 24 at the first result that does not fit: the nodes before
 /// it hold their lists, and the rest of the sheet is as it was, as are always the cells past the nodes.
+// Source, start and sheet as a run takes them: a struct of the three would be made for this one call.
 pub fn corner_lists<S: Source>(
     source: &S,
     start: usize,

@@ -9,6 +9,7 @@ use sources::Source;
 
 /// Writes how many routes lead from the start to each node, cut at 1,000,000. Refuses with 5 where the start is no
 /// node and with 10 where the sheet is shorter than the nodes, and leaves the sheet as it was. It never ends with 24.
+// Source, start and sheet as a run takes them: a struct of the three would be made for this one call.
 pub fn count_routes<S: Source>(
     source: &S,
     start: usize,

@@ -27,6 +27,7 @@ pub(crate) fn cheapest_at<S: Source + Drop>(
 
 /// How many routes lead from node 0 to a node, as a run of the count kind answers it. Refuses with 5 where there is no such
 /// node.
+// Figures answers one node of the least cost alone, which its report asks for: the number of routes at one node is read here.
 pub(crate) fn number_of_routes<S: Source>(source: &S, v: usize) -> Result<u32, Fault>
     ensures { AtSample (S.Source.network source.now) v (λ x. result ≡ Ok x.number) }
 {
