@@ -11,8 +11,8 @@ use std::io::Read;
 use takeoff::read;
 
 /// The call that thirteen bytes say: its kind, four small numbers, and the two parts of a weight.
-// A function, and no `From`: neither the array nor `Call` is a type of this crate. The kind is matched as the byte that it is: the six numbers and
-// the rest stand for calls here alone.
+// A function, and no `From`: neither the array nor `Call` is a type of this crate. The kind is matched as the byte that it
+// is: the six numbers and the rest stand for calls here alone.
 fn call_of(bytes: &[u8; 13]) -> Call {
     let [kind, v, k, from, long, a0, a1, a2, a3, b0, b1, b2, b3] = *bytes;
     let v = usize::from(v);

@@ -9,8 +9,8 @@ use polygons::Polygon;
 use sources::Source;
 
 /// The first `count` of `steps`, in the order in which they were taken back: the last step of the route is first.
-// As many places as a route can have steps, and how many are used: no call is to fail for want of memory. The kit's `ArrayVec`
-// is such a list too, but these crates stand on the standard library alone, and a push there asks for the room that the index does.
+// As many places as a route can have steps, and how many are used: no call is to fail for want of memory. The kit's
+// `ArrayVec` is such a list too, but a push there asks for the same room, and no crate here stands on more than `std`.
 #[derive(Clone, Copy, Debug, PartialEq, Eq)]
 pub(crate) struct Trail {
     pub count: usize,
