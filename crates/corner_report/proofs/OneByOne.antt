@@ -1,6 +1,6 @@
 -- The entries and the lines of a report, one more each time. Assumes nothing.
-use Rattle.std.proofs.Common.{◌≡◌, ℕ, zero, suc, ◌+◌, ◌<◌, ◌≤◌, ◌≢◌, List, [], ◌∷◌, ◌++◌, map, length, get_or, take, set, Option, sym, refl, ap, ◌∙◌, subst, arith, length-set, below_more}
-use Rattle.std.proofs.lemmas.List.{get_or-set_same, get_or-set_other, map_push, take_more, take_more_set}
+use Rattle.std.proofs.Common.{◌≡◌, ℕ, zero, suc, ◌+◌, ◌<◌, ◌≤◌, ◌≢◌, List, [], ◌∷◌, ◌++◌, map, length, get_or, min, take, drop, set, Option, sym, refl, ap, ◌∙◌, subst, arith, length-set, below_more}
+use Rattle.std.proofs.lemmas.List.{get_or_append_left, get_or-set_same, get_or-set_other, length-append, length-drop, length-take-le, map_push, take_more, take_more_set}
 use Rattle.network.specs.declared.weight.Weight.{Weight}
 use Rattle.network.specs.Networks.{Network}
 use Rattle.geometry.specs.Plane.{Pt}
@@ -29,6 +29,20 @@ put_more {X} P xs n x inside here before =
 module _ (N : Network) (s v : ℕ) (list : List Pt) where
   pub entered_more : (entries : List Entry) (k : ℕ) (e : Entry) → k < length entries → Tells N s v list k e → Entered N s v list entries k → Entered N s v list (set entries k e) (k + 1)
   entered_more entries k e inside tells so = λ i below _. put_more (Tells N s v list) entries k e inside tells (λ j l. so j l (omega arith)) i below
+
+  -- the entries that were made stand before those that were not
+  pub entered_all : (made old : List Entry) (m n k : ℕ) → m ≡ min n 32 → length old ≡ 32 → length made ≡ length (take m old) → length made ≤ k
+      → (n ≡ length list) × Entered N s v list made k → (length (made ++ drop m old) ≡ 32) × (n ≡ length list) × Entered N s v list (made ++ drop m old) n
+  entered_all made old m n k least room long all so =
+      let many : length made ≡ m = long ∙ length-take-le m old (omega (arith, least, room)) in
+      let rest = length-drop m old in
+      let whole : length (made ++ drop m old) ≡ 32 = length-append made (drop m old) ∙ (omega (arith, many, rest, room, least)) in (
+        whole,
+        so.0,
+        λ j l inside d.
+            let here : j < length made = omega (arith, l, inside, whole, many, least) in
+            subst (Tells N s v list j) (sym (get_or_append_left made (drop m old) d j here)) (so.1 j (omega (arith, here, all)) here d),
+      )
 
   pub lined_none : (weights : List Weight) (lines : List WeightLine) → length lines ≡ 16 → Lined N s v list weights lines 0
   lined_none weights lines room = record { room = room; kept = refl; weighs = λ i l. absurd (omega arith) }

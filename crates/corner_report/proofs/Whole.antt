@@ -1,5 +1,5 @@
 -- From what was read of a takeoff to its report. Assumes nothing.
-use Rattle.std.proofs.Common.{◌≡◌, ℕ, ◌+◌, ◌-◌, ◌<◌, ◌≤◌, List, [], ◌∷◌, map, length, get_or, take, Some, Ok, Err, Option, Result, sym, refl, ap, ◌∙◌, subst, inr, arith, MatchResult}
+use Rattle.std.proofs.Common.{◌≡◌, ℕ, ◌+◌, ◌<◌, ◌≤◌, List, [], ◌∷◌, map, length, get_or, take, Some, Ok, Err, Option, Result, sym, refl, ap, ◌∙◌, subst, inr, arith, MatchResult}
 use Rattle.std.specs.List.{AllByRecursion}
 use Rattle.std.proofs.ByRecursion.{All-get_or}
 use Rattle.std.proofs.lemmas.List.{get_or-map, length-map, map-id, take_all}
@@ -104,16 +104,16 @@ answered N M same h p planned weights x counted room entered many lined =
 -- the first of the places, as many as the header counts
 module _ (c : Contents) (h : Header) (is : h ≡ header_of c) (before after : List Record) (old new : List Weight) (segments : Holds arc (arcs_of c) before after) (counted : FrontCounted c after) (weights : Holds (λ (w : Weight). w) (weights_of c) old new) where
   abbrev pub rs : List Record
-  rs = take (h.segments - 0) after
+  rs = take h.segments after
 
   abbrev pub ws : List Weight
-  ws = take (h.weights - 0) new
+  ws = take h.weights new
 
-  as_many : h.segments - 0 ≡ length (arcs_of c)
-  as_many = let e = ap (λ (x : Header). x.segments) is in omega (arith, e)
+  as_many : h.segments ≡ length (arcs_of c)
+  as_many = ap (λ (x : Header). x.segments) is
 
-  as_many_weights : h.weights - 0 ≡ length (weights_of c)
-  as_many_weights = let e = ap (λ (x : Header). x.weights) is in omega (arith, e)
+  as_many_weights : h.weights ≡ length (weights_of c)
+  as_many_weights = ap (λ (x : Header). x.weights) is
 
   pub drawn : map arc rs ≡ arcs_of c
   drawn = ap (λ k. map arc (take k after)) as_many ∙ segments.front

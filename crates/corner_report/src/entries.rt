@@ -41,10 +41,9 @@ pub fn entries_of<S: Source>(plan: &Plan<S>, v: usize) -> Result<(usize, [Entry;
 {
     let count = plan.count(v)?;
     let mut entries = [Entry::default(); 32];
-    // A corner is asked for by its number, which is its place here too. No list has more than 32 corners, but a plan tells
-    // that only where it is made.
-    for k in 0..count.min(32) {
-        entries[k] = entry(plan, v, k)?;
+    // No list has more than 32 corners, but a plan tells that only where it is made.
+    for (k, place) in entries[..count.min(32)].iter_mut().enumerate() {
+        *place = entry(plan, v, k)?;
     }
     Ok((count, entries))
 }

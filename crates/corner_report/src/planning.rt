@@ -16,7 +16,7 @@ pub fn settled<S: Source + Drop>(source: S, start: usize, target: usize) -> Resu
     }
     let mut plan = Plan::new(source);
     plan.start(start)?;
-    for _v in 0..target + 1 {
+    for _v in 0..=target {
         plan.settle()?;
     }
     Ok(plan)

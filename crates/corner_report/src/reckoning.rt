@@ -16,6 +16,10 @@ use sources::Table;
 use takeoff::{Header, read};
 
 /// The report of a lawful takeoff. Refuses with 24 where a result does not fit.
+// Beside `report::report`, and not one function with it: this full report is told by a settled plan, the short one by a
+// run that finds least costs alone.
+// What is asked of the weights stands here and at `lines_of`, and in no third contract: a struct that holds it would be
+// made in `report` by the same proof, only to be taken apart in `lines_of`.
 fn reckon(header: Header, records: &[Record], weights: &[Weight]) -> Result<Report, Fault>
     requires drawn { Accepted header.nodes records.now }
     requires aimed { (header.start < header.nodes) × (header.target < header.nodes) }
@@ -52,7 +56,9 @@ pub fn report(bytes: &[u8]) -> Result<Report, Fault>
     let mut records = [Record::default(); 1024];
     let mut weights = [Weight::default(); 16];
     let header = read(bytes, &mut records, &mut weights)?;
-    let segments = header.segments;
-    let count = header.weights;
-    reckon(header, &records[0..segments], &weights[0..count])
+    reckon(
+        header,
+        &records[..header.segments],
+        &weights[..header.weights],
+    )
 }

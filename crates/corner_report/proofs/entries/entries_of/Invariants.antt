@@ -6,5 +6,4 @@ use Rattle.corner_report.proofs.entries.entries_of.Given as goal
 
 abbrev pub invariant-loop-k : goal.invariant-loop-k
 invariant-loop-k g l =
-    (length l.entries ≡ 32)
-    × Settled (g.S.Source.network l.plan.source) (progress l.plan.state) l.v (λ s list. (l.count ≡ length list) × Entered (g.S.Source.network l.plan.source) s l.v list l.entries l.k)
+    Settled (g.S.Source.network l.plan.source) (progress l.plan.state) l.v (λ s list. (l.count ≡ length list) × Entered (g.S.Source.network l.plan.source) s l.v list l.place-items l.k)
