@@ -9,8 +9,8 @@ use std::fmt::{Display, Formatter};
 
 /// A line of a report: a weight of the takeoff, and the least weighted cost there; none where no route leads to the
 /// target. The default has none.
-// Beside `printout::WeightLine`, and not one type with it: the other's line says the corner too, so that the two differ
-// in what they say and not in a type alone.
+// Beside `printout::WeightLine`, and not one type with it: this line of the short report says the least cost alone, that
+// of the full report the corner too.
 #[derive(Clone, Copy, Debug, Default, PartialEq, Eq)]
 pub struct Line {
     pub weight: Weight,

@@ -14,6 +14,10 @@ use sources::Table;
 use takeoff::{Header, read};
 
 /// The report of a lawful takeoff.
+// Beside `corner_report::report`, and not one function with it: this short report is told by a run that finds least costs
+// alone, the full one by a settled plan.
+// What is asked of the weights stands here, and their number at `lines_at`, and in no third contract: a struct that holds
+// it would be made in `report` by the same proof, only to be taken apart in `lines_at`.
 fn reckon(header: Header, records: &[Record], weights: &[Weight]) -> Result<Report, Fault>
     requires drawn { Accepted header.nodes records.now }
     requires aimed { (header.start < header.nodes) × (header.target < header.nodes) }

@@ -7,7 +7,8 @@ use std::fmt;
 use std::fmt::{Display, Formatter};
 
 /// A report: the heading, and at the front of `lines` one line for each of the takeoff's `count` weights, in their order.
-// Beside `printout::Report`, and not one type with it: this one tells of no corner, so that the two differ in what they say.
+// Beside `printout::Report`, and not one type with it: this short report tells the least cost at each weight alone, the
+// full one the corners with their cones and routes too.
 #[derive(Clone, Copy, Debug, PartialEq, Eq)]
 pub struct Report {
     pub heading: Heading,
