@@ -1,7 +1,6 @@
 pub mod NeverStops
 pub mod OneCheapest
 pub mod AtNode
-pub mod Laying
 pub mod Reports
 pub mod OneNumber
 pub mod Records

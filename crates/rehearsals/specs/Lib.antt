@@ -1,3 +1,4 @@
 pub mod AtSamples
 pub mod Telling
 pub mod Reporting
+pub mod Said

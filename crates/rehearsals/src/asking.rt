@@ -32,11 +32,8 @@ pub(crate) fn number_of_routes<S: Source>(source: &S, v: usize) -> Result<u32, F
     ensures { AtSample (S.Source.network source.now) v (λ x. result ≡ Ok x.number) }
 {
     let mut cells = [Tally::default(); 128];
-    let mut sheet = Sheet::over(&mut cells);
+    let mut sheet = Sheet::over(&mut cells[..source.nodes()]);
     count_routes(source, 0, &mut sheet)?;
-    if v >= source.nodes() {
-        return Err(Fault::BadNode(0));
-    }
     let tally = sheet.read(v).ok_or(Fault::BadNode(0))?;
     Ok(tally.count)
 }

@@ -1,9 +1,10 @@
 //! Samples that are tables.
-ghost use Rattle.std.specs.Prelude.{◌≡◌, map, Ok, MatchResult};
+ghost use Rattle.std.specs.Prelude.{◌≡◌, ◌≤◌, length, map, Ok, MatchResult};
 ghost use Rattle.sources.specs.Filling.{Accepted};
 ghost use Rattle.sources.specs.Tables.{listed, table_network};
 ghost use Rattle.samples.specs.Samples.{Weighed};
-ghost use Rattle.samples.specs.Table.{drawn, hexagon, lone, straight};
+ghost use Rattle.samples.specs.Table.{arc, drawn, hexagon, lone, straight};
+ghost use Rattle.rehearsals.specs.Said.{said};
 ghost use Rattle.rehearsals.specs.Telling.{Says};
 
 use crate::answer::Told;
@@ -13,61 +14,20 @@ use network::{Fault, Record, Size, Weight};
 use polygons::Cheapest;
 use sources::Table;
 
-const NONE: Size = Size {
-    price: 0,
-    pressure: 0,
-};
-
-/// The sizes of the segment from the start to the first node.
-const TO_FIRST: [Size; 8] = [
-    Size {
-        price: 4,
-        pressure: 1,
-    },
-    Size {
-        price: 1,
-        pressure: 3,
-    },
-    NONE,
-    NONE,
-    NONE,
-    NONE,
-    NONE,
-    NONE,
-];
-
-/// The size of the segment that goes past it.
-const PAST: [Size; 8] = [
-    Size {
-        price: 3,
-        pressure: 3,
-    },
-    NONE,
-    NONE,
-    NONE,
-    NONE,
-    NONE,
-    NONE,
-    NONE,
-];
-
-/// The sizes of the segment from the first node to the target.
-const FROM_FIRST: [Size; 8] = [
-    Size {
-        price: 2,
-        pressure: 2,
-    },
-    Size {
-        price: 1,
-        pressure: 6,
-    },
-    NONE,
-    NONE,
-    NONE,
-    NONE,
-    NONE,
-    NONE,
-];
+/// The segment between two nodes with these choices.
+fn record(tail: usize, head: usize, choices: &[Size]) -> Record
+    requires { length choices.now ≤ 8 }
+    ensures { said result ≡ (length choices.now, arc tail head choices.now) }
+{
+    let mut sizes = [Size::default(); 8];
+    sizes[..choices.len()].copy_from_slice(choices);
+    Record {
+        tail,
+        head,
+        count: choices.len(),
+        sizes,
+    }
+}
 
 /// The table of so many nodes and these records.
 fn filled(nodes: usize, records: &[Record]) -> Result<Table, Fault>
@@ -82,29 +42,43 @@ fn filled(nodes: usize, records: &[Record]) -> Result<Table, Fault>
 fn drawn_table() -> Result<Table, Fault>
     ensures { MatchResult result (λ t. table_network t ≡ drawn.network) (λ _. ⊥) }
 {
-    let table = filled(
-        3,
+    let to_first = record(
+        0,
+        1,
         &[
-            Record {
-                tail: 0,
-                head: 1,
-                count: 2,
-                sizes: TO_FIRST,
+            Size {
+                price: 4,
+                pressure: 1,
             },
-            Record {
-                tail: 0,
-                head: 2,
-                count: 1,
-                sizes: PAST,
-            },
-            Record {
-                tail: 1,
-                head: 2,
-                count: 2,
-                sizes: FROM_FIRST,
+            Size {
+                price: 1,
+                pressure: 3,
             },
         ],
-    )?;
+    );
+    let past = record(
+        0,
+        2,
+        &[Size {
+            price: 3,
+            pressure: 3,
+        }],
+    );
+    let from_first = record(
+        1,
+        2,
+        &[
+            Size {
+                price: 2,
+                pressure: 2,
+            },
+            Size {
+                price: 1,
+                pressure: 6,
+            },
+        ],
+    );
+    let table = filled(3, &[to_first, past, from_first])?;
     Ok(table)
 }
 
@@ -145,7 +119,7 @@ pub fn tell_lone() -> Result<Told, Fault>
 pub fn tell_straight() -> Result<Told, Fault>
     ensures { MatchResult result (λ t. Says straight t) (λ _. ⊥) }
 {
-    let sizes = [
+    let choices = [
         Size {
             price: 2,
             pressure: 2,
@@ -158,21 +132,8 @@ pub fn tell_straight() -> Result<Told, Fault>
             price: 3,
             pressure: 3,
         },
-        NONE,
-        NONE,
-        NONE,
-        NONE,
-        NONE,
     ];
-    let table = filled(
-        2,
-        &[Record {
-            tail: 0,
-            head: 1,
-            count: 3,
-            sizes,
-        }],
-    )?;
+    let table = filled(2, &[record(0, 1, &choices)])?;
     told(table, 1)
 }
 
@@ -182,7 +143,10 @@ pub fn tell_hexagon() -> Result<Told, Fault>
     ensures { MatchResult result (λ t. Says hexagon t) (λ _. ⊥) }
 {
     let around = [
-        NONE,
+        Size {
+            price: 0,
+            pressure: 0,
+        },
         Size {
             price: 1,
             pressure: 0,
@@ -195,36 +159,19 @@ pub fn tell_hexagon() -> Result<Told, Fault>
             price: 0,
             pressure: 1,
         },
-        NONE,
-        NONE,
-        NONE,
-        NONE,
     ];
     let along = [
-        NONE,
+        Size {
+            price: 0,
+            pressure: 0,
+        },
         Size {
             price: 1,
             pressure: 1,
         },
-        NONE,
-        NONE,
-        NONE,
-        NONE,
-        NONE,
-        NONE,
     ];
-    let first = Record {
-        tail: 0,
-        head: 1,
-        count: 4,
-        sizes: around,
-    };
-    let second = Record {
-        tail: 1,
-        head: 2,
-        count: 2,
-        sizes: along,
-    };
+    let first = record(0, 1, &around);
+    let second = record(1, 2, &along);
     let table = filled(3, &[first, second])?;
     told(table, 2)
 }

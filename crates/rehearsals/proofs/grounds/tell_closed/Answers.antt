@@ -7,7 +7,7 @@ use Rattle.rehearsals.proofs.grounds.tell_closed.Goals as goal
 
 pub returns : goal.returns
 returns c =
-    let below : closing_network grid_network c.over-closing.result ≡ without [] (grid_network c.in_ok-rows.field-0) =
+    let below : closing_network grid_network c.over-closing.result ≡ without [] (grid_network c.small_grid.result) =
     λ i. without (c.over-closing.ensures.closed i) (grid_network (c.over-closing.ensures.below i)) in
-    let first : closing_network grid_network c.over-closing.result ≡ rows = below ∙ ap (without []) c.in_ok-rows.ensures in
+    let first : closing_network grid_network c.over-closing.result ≡ rows = below ∙ ap (without []) c.small_grid.ensures in
     c.told.ensures closed closed_holds (sym (c.in_ok-close.ensures.network ∙ ap (without (1 ∷ [])) first)) refl
