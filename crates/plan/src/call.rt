@@ -4,6 +4,8 @@ use polygons::Cheapest;
 
 /// A call of a plan. A route names, behind its node and corner, the place where a part of the steps begins and how long
 /// the part is; it is written there.
+// Numbers side by side, in the order in which the methods take them: a struct of node and corner, of the part or of the two
+// rays of a reply would be made for one call and taken apart in it.
 #[derive(Clone, Copy, Debug, PartialEq, Eq)]
 pub enum Call {
     Start(usize),
