@@ -10,3 +10,4 @@ pub mod SameFault
 pub mod Unique
 pub mod Halting
 pub mod Reading
+pub mod Kept

@@ -1,4 +1,5 @@
-use Rattle.corner_report.proofs.Whole.{can, tells}
+use Rattle.takeoff.proofs.Kept.{can}
+use Rattle.corner_report.proofs.Whole.{tells}
 use Rattle.corner_report.proofs.reckoning.report.Goals as goal
 
 pub reckon-requires : goal.reckon-requires
@@ -10,7 +11,7 @@ reckon-requires c =
     (promised.writes_the_segments contents answered) (promised.counts_the_choices_of_each contents answered) (promised.writes_the_weights contents answered)
     answered.ends.0 answered.lawful in
     record {
-      drawn = prepared.drawn;
+      drawn = record { counted = prepared.counted; short = prepared.short; lawful = λ e l. prepared.lawful e l _ };
       aimed = (prepared.start_inside, prepared.target_inside);
       weighed = (prepared.few, prepared.weighed);
     }
