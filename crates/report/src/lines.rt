@@ -18,7 +18,8 @@ pub(crate) fn lines_at<S: Source>(
     ensures { MatchResult result (λ lines. Lined (S.Source.network source.now) start target weights.now lines (length weights.now)) (λ f. Spoiled (S.Source.network source.now) start target weights.now f) }
 {
     let mut lines = [Line::default(); 16];
-    // A line is written by its place: of what is written through `zip` nothing is known after the loop.
+    // A line is written by its place: with `zip` the proof of `lines_at` did not close, since of what is written through an
+    // adapter of `iter_mut` nothing is known after the loop.
     for (i, weight) in weights.iter().enumerate() {
         lines[i] = Line {
             weight: *weight,
