@@ -9,7 +9,8 @@ use sources::Source;
 #[derive(Debug, Drop)]
 pub struct Closing<S> {
     pub(crate) below: S,
-    // Sixteen places and how many are used, and not a list that grows: no call is to fail for want of memory.
+    // Sixteen places and how many are used, and not a list that grows: no call is to fail for want of memory. Nor an
+    // `ArrayVec`: the definition of the closed nodes reads both fields.
     pub(crate) closed: [usize; 16],
     pub(crate) count: usize,
     ghost short: { count ≤ 16 },
