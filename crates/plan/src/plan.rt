@@ -9,7 +9,8 @@ use std::marker::Model;
 
 /// A plan: a source, the start from which routes are sought, and the corner lists of the nodes that are settled, which
 /// are the lowest. Only its own calls change it, and none changes its source.
-// That none changes its source is said by each call that changes the plan: a type tells nothing of before and after.
+// That none changes its source is said by each call that changes the plan: a type tells nothing of before and after. So is
+// that the plan stands: a caller sees the value of a model, and not its invariant.
 #[derive(Drop)]
 pub struct Plan<S: Source> {
     pub(crate) source: S,
