@@ -119,4 +119,10 @@ impl Source for Table {
         let record = self.entries().get(e)?;
         Some(Segment { listed: *record })
     }
+
+    /// A record that leads elsewhere is not copied.
+    fn entering(&self, e: usize, v: usize) -> Option<Segment> {
+        let record = self.entries().get(e).filter(|record| record.head == v)?;
+        Some(Segment { listed: *record })
+    }
 }
