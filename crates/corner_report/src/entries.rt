@@ -40,6 +40,7 @@ pub fn entries_of<S: Source>(plan: &Plan<S>, v: usize) -> Result<(usize, [Entry;
     ensures { MatchResult result (λ x. Settled (S.Source.network plan.now.source) (progress plan.now.state) v (λ s list. (length x.1 ≡ 32) × (x.0 ≡ length list) × Entered (S.Source.network plan.now.source) s v list x.1 x.0)) (λ f. Refused (S.Source.network plan.now.source) (progress plan.now.state) v (Unit {0}) (λ _ _. ⊥) f) }
 {
     let count = plan.count(v)?;
+    // As many places as a node can have corners: no call is to fail for want of memory.
     let mut entries = [Entry::default(); 32];
     // No list has more than 32 corners, but a plan tells that only where it is made.
     for (k, place) in entries[..count.min(32)].iter_mut().enumerate() {

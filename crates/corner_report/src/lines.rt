@@ -23,8 +23,8 @@ pub(crate) fn lines_of(
     ensures { MatchResult result (λ lines. Lined (table_network plan.now.source) header.now.start header.now.target (target_list header.now plan.now) weights.now lines (length weights.now)) (λ _. ⊥) }
 {
     let mut lines = [WeightLine::default(); 16];
-    // A line is written by its place: with `zip` the proof of `lines_of` did not close, since of what is written through an
-    // adapter of `iter_mut` nothing is known after the loop.
+    // A line is written by its place: with `zip` the proof of `lines_of` did not close, since nothing is known after the
+    // loop of what is written through it.
     for (i, weight) in weights.iter().enumerate() {
         // Three arms, since one fault of the plan's is none here: that no route leads to the target.
         let best = match plan.cheapest(header.target, *weight) {

@@ -16,7 +16,7 @@ use sources::Table;
 use takeoff::{Header, read};
 
 /// The report of a lawful takeoff. Refuses with 24 where a result does not fit.
-// Beside `report::report`, and not one function with it: this full report is told by a settled plan, the short one by a
+// This and `report` stand beside those of report, and are not one with them: this full report is told by a settled plan, the short one by a
 // run that finds least costs alone.
 // What is asked of the weights stands here and at `lines_of`, and in no third contract: a struct that holds it would be
 // made in `report` by the same proof, only to be taken apart in `lines_of`.
@@ -31,6 +31,7 @@ fn reckon(header: Header, records: &[Record], weights: &[Weight]) -> Result<Repo
     let plan = settled(table, header.start, header.target)?;
     let (corners, entries) = entries_of(&plan, header.target)?;
     let lines = lines_of(&plan, &header, weights)?;
+    // Field by field, as in the other report: neither type is one of this crate's, so that it can have no `From` here.
     let heading = Heading {
         nodes: header.nodes,
         segments: records.len(),
@@ -53,6 +54,7 @@ fn reckon(header: Header, records: &[Record], weights: &[Weight]) -> Result<Repo
 pub fn report(bytes: &[u8]) -> Result<Report, Fault>
     ensures reports_the_takeoff { Reported bytes.now result }
 {
+    // Room for what a takeoff can hold: no call is to fail for want of memory.
     let mut records = [Record::default(); 1024];
     let mut weights = [Weight::default(); 16];
     let header = read(bytes, &mut records, &mut weights)?;

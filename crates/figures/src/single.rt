@@ -9,6 +9,7 @@ use sources::Source;
 
 /// The least weighted cost over all routes from the start to the target; none where no route leads there. Refuses
 /// with 8 where the weight is out of range and with 5 where the start or the target is no node.
+// Source, start and target stand side by side: a struct of them would be made for this one call.
 pub fn least_cost<S: Source>(
     source: &S,
     start: usize,

@@ -48,6 +48,7 @@ pub(crate) fn rays(polygon: Option<Polygon>, k: usize) -> Option<[i32; 4]> {
 /// The corner list of a node, as a run from node 0 leaves it, whether or not the run is refused.
 // The sheet is made and read here: no library answers one node of a run that is refused.
 pub(crate) fn corners_at<S: Source>(source: &S, v: usize) -> Option<Polygon> {
+    // As many cells as a network can have nodes: no call is to fail for want of memory.
     let mut cells = [Polygon::default(); 128];
     let mut sheet = Sheet::over(&mut cells);
     let _ = corner_lists(source, 0, &mut sheet);

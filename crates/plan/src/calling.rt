@@ -51,7 +51,8 @@ impl<S: Source> Plan<S> {
         if answers.len() < calls.len() {
             return Err(Fault::NoRoom(0));
         }
-        // By number, and not two slices at once: the proof of a loop over `zip` sees the iterator, and not what the answers hold.
+        // By number, and not two slices at once: tried with `zip`, and the proof did not close, which sees the iterator there and
+        // not what the answers hold.
         for (i, call) in calls.iter().enumerate() {
             answers[i] = self.call(*call, steps);
         }

@@ -31,6 +31,7 @@ pub(crate) fn cheapest_at<S: Source + Drop>(
 pub(crate) fn number_of_routes<S: Source>(source: &S, v: usize) -> Result<u32, Fault>
     ensures { AtSample (S.Source.network source.now) v (λ x. result ≡ Ok x.number) }
 {
+    // As many cells as a network can have nodes: no call is to fail for want of memory.
     let mut cells = [Tally::default(); 128];
     let mut sheet = Sheet::over(&mut cells[..source.nodes()]);
     count_routes(source, 0, &mut sheet)?;

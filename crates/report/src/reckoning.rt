@@ -14,7 +14,7 @@ use sources::Table;
 use takeoff::{Header, read};
 
 /// The report of a lawful takeoff.
-// Beside `corner_report::report`, and not one function with it: this short report is told by a run that finds least costs
+// This and `report` stand beside those of corner_report, and are not one with them: this short report is told by a run that finds least costs
 // alone, the full one by a settled plan.
 // What is asked of the weights stands here, and their number at `lines_at`, and in no third contract: a struct that holds
 // it would be made in `report` by the same proof, only to be taken apart in `lines_at`.
@@ -27,6 +27,7 @@ fn reckon(header: Header, records: &[Record], weights: &[Weight]) -> Result<Repo
     let mut table = Table::new();
     table.fill(header.nodes, records)?;
     let lines = lines_at(&table, header.start, header.target, weights)?;
+    // Field by field, as in the other report: neither type is one of this crate's, so that it can have no `From` here.
     let heading = Heading {
         nodes: header.nodes,
         segments: records.len(),
@@ -45,6 +46,7 @@ fn reckon(header: Header, records: &[Record], weights: &[Weight]) -> Result<Repo
 pub fn report(bytes: &[u8]) -> Result<Report, Fault>
     ensures reports_the_takeoff { Reported bytes.now result }
 {
+    // Room for what a takeoff can hold: no call is to fail for want of memory.
     let mut records = [Record::default(); 1024];
     let mut weights = [Weight::default(); 16];
     let header = read(bytes, &mut records, &mut weights)?;

@@ -7,7 +7,7 @@ pub struct Sheet<'a, T> {
     cells: &'a mut [T],
 }
 
-/// Writes a cell, if it is there.
+/// Writes a cell, if it is there. It answers as `put` does, which it is for.
 fn store<T: Drop>(cells: &mut [T], v: usize, x: T) -> bool
     ensures writes { cells.new ≡ slice_set cells.old v x }
     ensures tells { Decides result (v < length cells.old) }
@@ -57,7 +57,8 @@ impl<'a, T: Drop> Sheet<'a, T> {
     }
 
     /// Writes the value at node `v`. Past the end it answers false, and nothing changes.
-    // A truth value, and not a Result: there is no fault to name, and a run that has tested the length has nothing to pass on.
+    // A truth value, and no result or option: there is no fault to name, and a run that has tested the length has nothing to
+    // pass on.
     pub fn put(&mut self, v: usize, x: T) -> bool
         ensures lent { self.new.cells.ghost_name ≡ self.old.cells.ghost_name }
         ensures writes { self.new.cells.now ≡ slice_set self.old.cells.now v x }

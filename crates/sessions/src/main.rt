@@ -33,6 +33,7 @@ fn call_of(bytes: &[u8; 13]) -> Call {
 }
 
 /// Prints one answer.
+// Case by case: `Reply` is no type of this crate, so that it can have no `Display` here.
 fn print_answer(rt: &HostRuntime, answer: &Result<Reply, Fault>) -> io::Result<()> {
     match answer {
         Ok(Reply::Done) => println!(rt; "done"),
@@ -66,7 +67,8 @@ fn print_place(rt: &HostRuntime, steps: &[Step]) -> io::Result<()> {
 }
 
 /// Prints the answers to a list of calls over the table, and then what the steps hold.
-// The first 64 calls of a list are answered, and so many places hold them: a list that grows would have to be cut to 64.
+// The first 64 calls of a list are answered, and so many places hold them: a list that grows would have to be cut to 64. The
+// steps begin with a step of no takeoff, so that what is printed tells where nothing was written.
 fn print_calls(rt: &HostRuntime, table: Table, encoded: &[u8]) -> io::Result<()> {
     let mut calls = [Call::Settle; 64];
     let count = decode(encoded, &mut calls);
@@ -84,6 +86,7 @@ fn print_calls(rt: &HostRuntime, table: Table, encoded: &[u8]) -> io::Result<()>
 
 /// The table of the segments that a takeoff lists.
 fn table_of(takeoff: &[u8]) -> Result<Table, Fault> {
+    // Room for what a takeoff can hold: the reader takes no list that grows.
     let mut records = [Record::default(); 1024];
     let mut weights = [Weight::default(); 16];
     let header = read(takeoff, &mut records, &mut weights)?;

@@ -119,11 +119,4 @@ impl Source for Table {
         let record = self.entries().get(e)?;
         Some(Segment { listed: *record })
     }
-
-    /// A record that leads elsewhere is not copied.
-    // Beside the default of the trait, for speed: docs/SPEED.md says what the default costs.
-    fn entering(&self, e: usize, v: usize) -> Option<Segment> {
-        let record = self.entries().get(e).filter(|record| record.head == v)?;
-        Some(Segment { listed: *record })
-    }
 }

@@ -47,7 +47,7 @@ fn segment_from(tail: usize, head: usize, bytes: &[u8]) -> Record
 {
     let (chunks, _) = bytes.as_chunks();
     let mut sizes = [Size::default(); 8];
-    // A size is written by its place: of what is written through `zip` nothing is known after the loop.
+    // A size is written by its place: nothing is known after a loop of what is written through `zip`, so no proof would close.
     for (j, chunk) in chunks.iter().enumerate() {
         sizes[j] = size_from(chunk);
     }

@@ -11,7 +11,7 @@ use polygons::Polygon;
 fn adds_up(corner: &Cost, choice: &Choice, left: &Cost) -> bool
     ensures { Decides result (plus (point corner.now) (size_cost choice.now.size) ≡ point left.now) }
 {
-    corner.plus(&choice.cost()) == Some(*left)
+    corner.plus(&choice.cost()).is_some_and(|sum| sum == *left)
 }
 
 /// The corner from which the choice leads to what is left; none where there is no such corner.

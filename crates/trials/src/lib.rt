@@ -19,6 +19,7 @@ pub(crate) fn routes<S: Source>(
     start: usize,
     target: usize,
 ) -> Result<Option<u32>, Fault> {
+    // As many cells as a network can have nodes: no call is to fail for want of memory.
     let mut cells = [Tally::default(); 128];
     let mut sheet = Sheet::over(&mut cells);
     count_routes(source, start, &mut sheet)?;
