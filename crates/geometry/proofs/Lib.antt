@@ -35,3 +35,4 @@ pub mod Results
 pub mod Existing
 pub mod Fitting
 pub mod Mapped
+pub mod MappedSums

@@ -10,10 +10,8 @@ use Rattle.sources.specs.Answers.{Answered}
 use Rattle.grids.specs.Laying.{Laid, NotLaid, BadShape, BadParts, BadPair, HoldsCells, HoldsSizes}
 use Rattle.sources.proofs.Answering.{answered_ok, answered_err}
 
-pub holds_cells : (n : ℕ) (cs ls : List Cell) → length cs ≡ n → take (length cs) ls ≡ cs → length ls ≡ 128 → MildExtras cs → HoldsCells n cs ls
-holds_cells n cs ls long begins room mild =
-    let same : take n ls ≡ cs = subst (λ m. take m ls ≡ cs) long begins in
-    record { begins = same; room = room; extras = subst MildExtras (sym same) mild }
+pub holds_cells : (n : ℕ) (cs ls : List Cell) → take n ls ≡ cs → length ls ≡ 128 → MildExtras cs → HoldsCells n cs ls
+holds_cells n cs ls begins room mild = record { begins = begins; room = room; extras = subst MildExtras (sym begins) mild }
 
 pub holds_sizes : (zs ls : List Size) → take (length zs) ls ≡ zs → length ls ≡ 8 → MildSizes zs → SizesApart zs → HoldsSizes zs ls
 holds_sizes zs ls begins room mild apart =

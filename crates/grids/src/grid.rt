@@ -156,7 +156,7 @@ impl Grid {
         ensures { segment_arc result ≡ record { tail = u; head = v; sizes = map (plus_extra extra) (grid_sizes self.now) } }
     {
         let mut sizes = self.sizes;
-        raise(&mut sizes[..self.count], &extra);
+        raise(&mut sizes[..self.count], &self.sizes[..self.count], &extra);
         Segment {
             listed: Record {
                 tail: u,

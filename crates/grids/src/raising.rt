@@ -1,5 +1,5 @@
 //! Sizes with an extra.
-ghost use Rattle.std.specs.Prelude.{◌≡◌, map};
+ghost use Rattle.std.specs.Prelude.{◌≡◌, map, length};
 ghost use Rattle.grids.specs.Cells.{Mild, MildSizes};
 ghost use Rattle.grids.specs.Grids.{paid as paid_of, plus_extra};
 
@@ -25,13 +25,15 @@ fn raised(size: &Size, extra: &Size) -> Size
     }
 }
 
-/// Puts an extra on each of the sizes.
-pub(crate) fn raise(sizes: &mut [Size], extra: &Size)
-    requires mild { MildSizes sizes.old }
+/// Writes the listed sizes with an extra to a place for as many.
+pub(crate) fn raise(sizes: &mut [Size], listed: &[Size], extra: &Size)
+    requires long { length sizes.old ≡ length listed.now }
+    requires mild { MildSizes listed.now }
     requires extra { Mild extra.now }
-    ensures { sizes.new ≡ map (plus_extra extra.now) sizes.old }
+    ensures { sizes.new ≡ map (plus_extra extra.now) listed.now }
 {
-    for size in sizes.iter_mut() {
-        *size = raised(size, extra);
+    // Read from one array and written to another: a caller that asks for no size then has none worked out.
+    for (k, size) in sizes.iter_mut().enumerate() {
+        *size = raised(&listed[k], extra);
     }
 }

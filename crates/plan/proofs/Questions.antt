@@ -1,5 +1,6 @@
 -- What a plan answers of a settled node. Assumes nothing.
-use Rattle.std.proofs.Common.{◌≡◌, ℕ, ◌<◌, List, [], length, get_or, Some, sym, refl, ◌∙◌, subst, arith}
+use Rattle.std.proofs.Common.{◌≡◌, ℕ, ◌<◌, List, [], length, get_or, Some, None, Ok, Err, Option, MatchOption, sym, refl, ◌∙◌, subst, arith}
+use Rattle.std.specs.Option.{ok_or}
 use Rattle.std.proofs.lemmas.List.{get_or-map}
 use Rattle.network.specs.declared.fault.Fault.{Fault}
 use Rattle.network.specs.declared.fault.Fault.TheVariants as fault
@@ -22,6 +23,16 @@ use Rattle.plan.specs.Answers.{Settled, Refused, NoNode, BadWeight, NotStarted, 
 use Rattle.plan.specs.Lists.{Held}
 use Rattle.plan.specs.Progress.{Progress}
 use Rattle.plan.specs.Standing.{progress, Stands}
+
+-- where a fault stands for a missing value, an answered value is the one that was there
+pub answered_there : {T E : Type 0} (Without : Type 0) (With : T → Type 0) (o : Option T) (f : E) (x : T) → MatchOption o Without With → Ok x ≡ ok_or o f → With x
+answered_there Without With None f x h e = absurd (cc)
+answered_there Without With (Some y) f x h e = let is : y ≡ x = cc in subst With is h
+
+-- and an answered fault is that one, and nothing was there
+pub missing_there : {T E : Type 0} (Without : Type 0) (With : T → Type 0) (o : Option T) (f e : E) → MatchOption o Without With → Err e ≡ ok_or o f → (f ≡ e) × Without
+missing_there Without With None f e h is = (cc, h)
+missing_there Without With (Some y) f e h is = absurd (cc)
 
 -- the same refusal, where a weight is lawful by another name and other corners are lacking
 pub refused_as : (N : Network) (p : Progress) (v : ℕ) {A B : Type 0} {L M : ℕ → List Pt → Type 0} → (A → B) → (B → A) → ((s : ℕ) (list : List Pt) → L s list → M s list) → (f : Fault) → Refused N p v A L f → Refused N p v B M f

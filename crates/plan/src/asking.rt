@@ -55,7 +55,9 @@ impl<S: Source> Plan<S> {
         ensures { ConeAnswer (S.Source.network self.now.source) (progress self.now.state) v k result }
     {
         let list = self.held(v, true)?;
-        list.cone(k).ok_or(Fault::NoCorner)
+        // Named before they are answered, here and below, so that an edit can turn the value and nothing else.
+        let (first, second) = list.cone(k).ok_or(Fault::NoCorner)?;
+        Ok((first, second))
     }
 
     /// The least cost of all routes to node `v` at a weight, and the lowest corner that has it. Refuses with 5, 20 and 22
@@ -64,6 +66,7 @@ impl<S: Source> Plan<S> {
         ensures { CheapestAnswer (S.Source.network self.now.source) (progress self.now.state) v weight result }
     {
         let list = self.held(v, weight.in_range())?;
-        list.cheapest(&weight).ok_or(Fault::NoCorner)
+        let best = list.cheapest(&weight).ok_or(Fault::NoCorner)?;
+        Ok(best)
     }
 }

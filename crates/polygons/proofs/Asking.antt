@@ -1,100 +1,66 @@
 -- What is found of the corners of a polygon, corner by corner, and of the cone at one of them.
-use Rattle.std.proofs.Common.{◌≡◌, ℕ, ◌<◌, List, length, get_or, ℤ, pos, false, Some, None, Option, MatchOption, Bor, refl, ◌-ℤ◌, ◌*ℤ◌, ◌≤ℤ◌, ◌<ℤ◌, sym, ap, ◌∙◌, subst, arith}
-use Rattle.std.proofs.lemmas.Bool.{false≢true}
-use Rattle.std.proofs.lemmas.Cmp.{ranked, int_ranked, by_ranked}
-use Rattle.std.specs.List.{HoldsAt}
-use Rattle.std.specs.Option.{IfSome, IsSome, IsSomeAnd, option_map}
-use Rattle.std.specs.Ordering.{is_lt, int_cmp, nat_cmp, ordering_then}
+use Rattle.std.proofs.Common.{◌≡◌, ℕ, zero, suc, ◌+◌, ◌<◌, List, length, get_or, ℤ, pos, ◌-ℤ◌, ◌*ℤ◌, ◌≤ℤ◌, ◌<ℤ◌, sym, ap, ◌∙◌, subst, Some, None, Option, MatchOption, arith}
+use native.Mathlib.Decide.{ℕ_discrete}
+use lib.Signed.{≤ℤ_refl}
 use Rattle.network.specs.declared.cost.Cost.{Cost}
-use Rattle.network.specs.declared.weight.Weight.{Weight}
-use Rattle.network.specs.Costs.{point, weigh}
 use Rattle.network.specs.declared.way.Ray.{Ray}
 use Rattle.geometry.specs.Cones.{arriving, leaving, previous, following, InCone}
 use Rattle.geometry.specs.Plane.{Pt, dot, nth}
 use Rattle.geometry.specs.Polygons.{after, before, ray}
 use Rattle.geometry.proofs.Cones.{cone_attains, attains_cone}
-use Rattle.geometry.proofs.Mapped.{nth_map}
 use Rattle.geometry.proofs.Integers.{lin}
 use Rattle.geometry.proofs.Round.{before_in}
 use Rattle.polygons.specs.declared.polygon.Polygon.{Polygon}
 use Rattle.polygons.specs.declared.cheapest.Cheapest.{Cheapest}
-use Rattle.polygons.specs.Cheapest.{CheapestOf, pair}
+use Rattle.polygons.specs.Cheapest.{CheapestOf}
 use Rattle.polygons.specs.Corners.{corner_list}
-use Rattle.polygons.specs.Points.{place, places}
+use Rattle.polygons.specs.Points.{place}
 use Rattle.polygons.specs.Rays.{heading, BetweenRays, Cone}
 use Rattle.polygons.specs.CornersLemmas.{corner_count, corner_at}
 use Rattle.polygons.specs.Rounding.{polygon_of}
 use Rattle.polygons.proofs.Summation.{following_at}
 
--- what a place has that was read, counted and priced
-pub priced_at : (xs : List Cost) (ps : List Pt) (w : Weight) (k : ℕ) → places xs ≡ ps → k < length xs → (Prices : ℕ × Bor Cost → Cheapest → Type 0)
-    → ((x : ℕ × Bor Cost) (y : Cheapest) → Prices x y → (y.corner ≡ x.0) × (y.least ≡ weigh w (point x.1.now)))
-    → (read : Option (Bor Cost)) (counted : Option (ℕ × Bor Cost)) (priced : Option Cheapest) → IfSome read (λ x. HoldsAt (λ y. x.now ≡ y) xs k)
-    → read ≡ option_map (λ x. x.1) counted → IfSome counted (λ x. x.0 ≡ k) → IfSome priced (λ y. IsSomeAnd counted (λ x. Prices x y))
-    → IfSome priced (λ y. (y.corner ≡ k) × (y.least ≡ dot (pair w) (nth ps k)))
-priced_at xs ps w k e h P f read counted None r o c p = tt
-priced_at xs ps w k e h P f read None (Some y) r o c p = absurd p
-priced_at xs ps w k e h P f read (Some x) (Some y) r o c p =
-    let is : HoldsAt (λ y. x.1.now ≡ y) xs k = subst (λ z. IfSome z (λ x. HoldsAt (λ y. x.now ≡ y) xs k)) o r in
-    let z = f x y p in
-    (z.0 ∙ c, z.1 ∙ ap (λ v. dot (pair w) (place v)) (is x.1.now) ∙ ap (dot (pair w)) (sym (nth_map place xs k x.1.now h) ∙ ap (λ q. nth q k) e))
+module _ (ps : List Pt) (w : Pt) where
+  pub cheapest_one : (z : ℤ) → z ≡ dot w (nth ps 0) → CheapestOf ps w 1 z 0
+  cheapest_one z e = record { within = omega arith; attained = sym e; bound = one; lowest = λ i h. absurd (omega arith) }
+    where
+      one : (i : ℕ) → i < 1 → z ≤ℤ dot w (nth ps i)
+      one zero h = subst (λ y. z ≤ℤ y) e (≤ℤ_refl z)
+      one (suc i) h = absurd (omega arith)
 
--- a place that reads has something
-pub there_at : (o : Option Cheapest) (v : Cheapest) → option_map (λ y. y) o ≡ Some v → IsSome o
-there_at None v e = absurd (cc)
-there_at (Some y) v e = refl
-
--- what comes not before (b, j) is no less than it, and more where its second part is lower
-not_before : (a b : ℤ) (i j : ℕ) → is_lt (ordering_then (int_cmp a b) (nat_cmp i j)) ≡ false → (b ≤ℤ a) × (i < j → b <ℤ a)
-not_before a b i j e =
-    by_ranked (a <ℤ b) (a ≡ b) (b <ℤ a) (int_cmp a b) (int_ranked a b _ refl)
-    (λ o l. absurd (false≢true (sym e ∙ ap (λ z. is_lt (ordering_then z (nat_cmp i j))) o)))
-    (λ o q. (omega (arith, lin), λ h. absurd (lower (sym (ap (λ z. is_lt (ordering_then z (nat_cmp i j))) o) ∙ e) h)))
-    (λ o g. (omega (arith, lin), λ h. g))
-  where
-    lower : is_lt (nat_cmp i j) ≡ false → i < j → ⊥
-    lower f h = by_ranked (i < j) (i ≡ j) (j < i) (nat_cmp i j) (ranked i j _ refl) (λ o l. false≢true (sym f ∙ ap is_lt o)) (λ o q. omega arith) (λ o g. omega arith)
-
--- at each place below n stands what the corner there costs, and none of them comes before m
-module _ (ps : List Pt) (w : Pt) (n : ℕ) (at : ℕ → Option Cheapest) (priced : (k : ℕ) → k < n → IfSome (at k) (λ y. (y.corner ≡ k) × (y.least ≡ dot w (nth ps k))))
-    (some : (k : ℕ) → k < n → IsSome (at k)) where
-  module _ (m : Cheapest) (first : (k : ℕ) → IfSome (at k) (λ y. is_lt (ordering_then (int_cmp y.least m.least) (nat_cmp y.corner m.corner)) ≡ false)) where
-    no_cheaper : (i : ℕ) → i < n → (m.least ≤ℤ dot w (nth ps i)) × (i < m.corner → m.least <ℤ dot w (nth ps i))
-    no_cheaper i h = go (at i) (some i h) (priced i h) (first i)
+  -- corner n costs z
+  module _ (n : ℕ) (m : ℤ) (k : ℕ) (c : CheapestOf ps w n m k) (z : ℤ) (e : z ≡ dot w (nth ps n)) where
+    pub cheapest_took : z <ℤ m → CheapestOf ps w (n + 1) z n
+    cheapest_took h = record { within = omega arith; attained = sym e; bound = λ i hi. go i hi (ℕ_discrete i n); lowest = λ i hi. omega (arith, lin, c.bound i hi) }
       where
-        go : (o : Option Cheapest) → IsSome o → IfSome o (λ y. (y.corner ≡ i) × (y.least ≡ dot w (nth ps i)))
-            → IfSome o (λ y. is_lt (ordering_then (int_cmp y.least m.least) (nat_cmp y.corner m.corner)) ≡ false)
-            → (m.least ≤ℤ dot w (nth ps i)) × (i < m.corner → m.least <ℤ dot w (nth ps i))
-        go None s p f = absurd (false≢true s)
-        go (Some y) s p f =
-            let b = not_before y.least m.least y.corner m.corner f in
-            (subst (λ z. m.least ≤ℤ z) p.1 b.0, λ u. subst (λ z. m.least <ℤ z) p.1 (b.1 (omega (arith, p.0, u))))
+        go : (i : ℕ) → i < n + 1 → Dec (i ≡ n) → z ≤ℤ dot w (nth ps i)
+        go i hi (yes d) = subst (λ j. z ≤ℤ dot w (nth ps j)) (sym d) (subst (λ y. z ≤ℤ y) e (≤ℤ_refl z))
+        go i hi (no d) = omega (arith, lin, c.bound i (omega arith))
 
-    here : (k : ℕ) → k < n → IsSomeAnd (at k) (λ y. y ≡ m) → (m.corner ≡ k) × (m.least ≡ dot w (nth ps k))
-    here k h = go (at k) (priced k h)
+    pub cheapest_kept : m ≤ℤ z → CheapestOf ps w (n + 1) m k
+    cheapest_kept h = record { within = omega (arith, c.within); attained = c.attained; bound = λ i hi. go i hi (ℕ_discrete i n); lowest = c.lowest }
       where
-        go : (o : Option Cheapest) → IfSome o (λ y. (y.corner ≡ k) × (y.least ≡ dot w (nth ps k))) → IsSomeAnd o (λ y. y ≡ m)
-            → (m.corner ≡ k) × (m.least ≡ dot w (nth ps k))
-        go None p e = absurd e
-        go (Some y) p e = (ap (λ z. z.corner) (sym e) ∙ p.0, ap (λ z. z.least) (sym e) ∙ p.1)
+        go : (i : ℕ) → i < n + 1 → Dec (i ≡ n) → m ≤ℤ dot w (nth ps i)
+        go i hi (yes d) = subst (λ j. m ≤ℤ dot w (nth ps j)) (sym d) (subst (λ y. m ≤ℤ y) e h)
+        go i hi (no d) = c.bound i (omega arith)
 
-    cheapest_of : (k : ℕ) → k < n → IsSomeAnd (at k) (λ y. y ≡ m) → CheapestOf ps w n m.least m.corner
-    cheapest_of k h e =
-        let found = here k h e in
-        record {
-          within = omega (arith, found.0);
-          attained = sym (found.1 ∙ ap (λ i. dot w (nth ps i)) (sym found.0));
-          bound = λ i hi. (no_cheaper i hi).0;
-          lowest = λ i hi. (no_cheaper i (omega (arith, found.0))).1 hi;
-        }
+-- the cheapest of the first n corners, if there is one yet
+abbrev pub SoFar : List Pt → Pt → ℕ → Option Cheapest → Type 0
+SoFar ps w n r = MatchOption r (n ≡ 0) (λ b. CheapestOf ps w n b.least b.corner)
 
-  -- the first of them all by its cost and its place is the cheapest
-  pub cheapest_answer : (r : Option Cheapest) → length ps ≡ n
-      → MatchOption r (n ≡ 0) (λ m. ((k : ℕ) × (k < n) × IsSomeAnd (at k) (λ y. y ≡ m))
-      × ((k : ℕ) → IfSome (at k) (λ y. is_lt (ordering_then (int_cmp y.least m.least) (nat_cmp y.corner m.corner)) ≡ false)))
-      → MatchOption r (length ps ≡ 0) (λ m. CheapestOf ps w (length ps) m.least m.corner)
-  cheapest_answer None e h = e ∙ h
-  cheapest_answer (Some m) e (found, first) = subst (λ z. CheapestOf ps w z m.least m.corner) (sym e) (cheapest_of m first found.0 found.1 found.2)
+-- corner n costs z, and the least so far was b, or there was none
+module _ (ps : List Pt) (w : Pt) (n : ℕ) (z : ℤ) (e : z ≡ dot w (nth ps n)) (r : Option Cheapest) (so_far : SoFar ps w n r) where
+  pub first_found : r ≡ None → CheapestOf ps w (n + 1) z n
+  first_found is =
+      let none : n ≡ 0 = subst (λ o. SoFar ps w n o) is so_far in
+      subst (λ k. CheapestOf ps w (k + 1) z k) (sym none) (cheapest_one ps w z (e ∙ ap (λ k. dot w (nth ps k)) none))
+
+  module _ (b : Cheapest) (is : r ≡ Some b) where
+    pub less_found : z <ℤ b.least → CheapestOf ps w (n + 1) z n
+    less_found h = cheapest_took ps w n b.least b.corner (subst (λ o. SoFar ps w n o) is so_far) z e h
+
+    pub no_less : b.least ≤ℤ z → SoFar ps w (n + 1) r
+    no_less h = subst (λ o. SoFar ps w (n + 1) o) (sym is) (cheapest_kept ps w n b.least b.corner (subst (λ o. SoFar ps w n o) is so_far) z e h)
 
 -- the rays at corner k, for what its cone holds
 module _ (l : Polygon) (k : ℕ) (within : k < length (corner_list l)) (r : Ray × Ray) (first : heading r.0 ≡ arriving (corner_list l) k)

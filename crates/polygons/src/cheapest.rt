@@ -1,5 +1,5 @@
 //! The cheapest corner at a weight.
-ghost use Rattle.std.specs.Prelude.{◌≡◌, length, MatchOption, Some};
+ghost use Rattle.std.specs.Prelude.{◌≡◌, ◌<ℤ◌, ◌≤ℤ◌, true, false, length, MatchOption, Some};
 ghost use Rattle.polygons.specs.Corners.{corner_list};
 ghost use Rattle.polygons.specs.Cheapest.{CheapestAt};
 ghost use Rattle.polygons.specs.Texts.{cheapest_text};
@@ -17,18 +17,29 @@ pub struct Cheapest {
     pub corner: usize,
 }
 
+/// Whether an amount is below the least so far.
+fn below(amount: i64, best: &Cheapest) -> bool
+    ensures yes { result ≡ true → amount <ℤ best.now.least }
+    ensures no { result ≡ false → best.now.least ≤ℤ amount }
+{
+    amount < best.least
+}
+
 impl Polygon {
     /// The least cost at a weight over the corners, and the lowest number of a corner that has it.
     /// None where there is no corner.
     pub fn cheapest(&self, weight: &Weight) -> Option<Cheapest>
         ensures { MatchOption result (length (corner_list self.now) ≡ 0) (λ b. CheapestAt self.now weight.now b.least b.corner) }
     {
-        let corners = self.corners().iter().enumerate();
-        let priced = corners.map(|(corner, cost)| Cheapest {
-            least: weighted_cost(weight, cost),
-            corner,
-        });
-        priced.min()
+        let mut best: Option<Cheapest> = None;
+        for (corner, cost) in self.corners().iter().enumerate() {
+            let least = weighted_cost(weight, cost);
+            match best {
+                Some(found) if !below(least, &found) => {}
+                _ => best = Some(Cheapest { least, corner }),
+            }
+        }
+        best
     }
 }
 

@@ -30,7 +30,7 @@ same_ray : (r s : Ray) (p : Pt) → heading r ≡ p → heading s ≡ p → r �
 same_ray r s p e f = ap (λ (q : Pt). record { a = q.0; b = q.1 }) (e ∙ sym f)
 
 -- a corner has one cone
-same_rays : (N : Network) (s v : ℕ) (list : List Pt) (k : ℕ) (one other : Ray × Ray) → ConeOf N s v list k one → ConeOf N s v list k other → one ≡ other
+pub same_rays : (N : Network) (s v : ℕ) (list : List Pt) (k : ℕ) (one other : Ray × Ray) → ConeOf N s v list k one → ConeOf N s v list k other → one ≡ other
 same_rays N s v list k one other a b =
     λ i. (same_ray one.0 other.0 _ a.first_arrives b.first_arrives i, same_ray one.1 other.1 _ a.second_leaves b.second_leaves i)
 

@@ -2,6 +2,7 @@ pub mod RouteSums
 pub mod LastSteps
 pub mod InNetwork
 pub mod Searches
+pub mod Totals
 pub mod Downs
 pub mod OneWay
 pub mod Descents

@@ -8,10 +8,13 @@ use network::{Choice, Cost};
 use polygons::Polygon;
 
 /// Whether the corner and the cost of the choice add up to what is left. A sum out of range never does.
+// Part by part, and not by `plus`: what equals a cost is in range, and to test that of each sum took a third of a run with many
+// corners.
 fn adds_up(corner: &Cost, choice: &Choice, left: &Cost) -> bool
     ensures { Decides result (plus (point corner.now) (size_cost choice.now.size) ≡ point left.now) }
 {
-    corner.plus(&choice.cost()).is_some_and(|sum| sum == *left)
+    let cost = choice.cost();
+    corner.price + cost.price == left.price && corner.pressure + cost.pressure == left.pressure
 }
 
 /// The corner from which the choice leads to what is left; none where there is no such corner.

@@ -1,8 +1,8 @@
-use Rattle.std.proofs.Common.{sym, refl, subst}
+use Rattle.std.proofs.Common.{refl}
 use Rattle.plan.specs.Answers.{ConeAnswer}
 use Rattle.plan.specs.Standing.{progress}
-use Rattle.network.proofs.PassedOn.{passed_on, ok_or_fault}
-use Rattle.plan.proofs.Questions.{settled, cone_of, lacking, refused_as}
+use Rattle.network.proofs.PassedOn.{passed_on}
+use Rattle.plan.proofs.Questions.{answered_there, settled, cone_of, refused_as}
 use Rattle.plan.proofs.plan.Plan.cone.Goals as goal
 
 pub returns-in_err-list : goal.returns-in_err-list
@@ -18,7 +18,5 @@ returns g c =
     let ruled = g.S.Source.ruled c.args.self.now.source in
     let p = progress c.args.self.now.state in
     let held = c.in_ok-list.ensures in
-    subst (ConeAnswer N p c.args.v c.args.k) (sym c.ok_or.ensures.value)
-    (ok_or_fault (ConeAnswer N p c.args.v c.args.k) c.cone.result _ c.cone.ensures
-    (λ none. lacking N ruled p c.args.v _ held _ _ tt none)
-    (λ rays h. settled N ruled p c.args.v _ held _ (cone_of N ruled p c.args.v _ held c.args.k rays h)))
+    let rays = answered_there _ _ c.cone.result _ (c.in_ok-first.first, c.in_ok-first.second) c.cone.ensures c.in_ok-first.ensures.value in
+    settled N ruled p c.args.v _ held _ (cone_of N ruled p c.args.v _ held c.args.k (c.in_ok-first.first, c.in_ok-first.second) rays)

@@ -1,23 +1,27 @@
-use Rattle.std.proofs.Common.{◌≡◌, length, pos, rules, arith, ap, ◌∙◌, sym}
-use Rattle.std.proofs.lemmas.List.{length-map}
-use Rattle.std.specs.Slice.Iter.{iter_rest}
-use Rattle.polygons.proofs.Asking.{priced_at, there_at, cheapest_answer}
+use Rattle.std.proofs.Common.{◌≡◌, ◌≤ℤ◌, ◌<ℤ◌, ap, sym, ◌∙◌, subst, w64, to_z, of_z}
+use Rattle.geometry.specs.Plane.{dot, nth}
+use Rattle.geometry.proofs.Mapped.{nth_map}
+use Rattle.polygons.specs.declared.cheapest.Cheapest.{Cheapest}
 use Rattle.polygons.specs.Cheapest.{pair}
 use Rattle.polygons.specs.Corners.{corner_list}
-use Rattle.polygons.specs.Points.{place, places}
+use Rattle.polygons.specs.Points.{place}
+use Rattle.polygons.proofs.Asking.{first_found, less_found, no_less}
+use Rattle.polygons.proofs.Ways.{held}
 use Rattle.polygons.proofs.polygon.Polygon.cheapest.Goals as goal
+use Rattle.polygons.proofs.polygon.Polygon.cheapest.Goals.{in-Some, in_default-2, in_default}
 
-pub returns : goal.returns
-returns c =
+pub loop-corner-preserved : goal.loop-corner-preserved
+loop-corner-preserved c =
     let ps = corner_list c.args.self.now in
-    let costs = c.min.ensures.runs in
-    let priced = c.map-priced.ensures.runs costs.0 costs.0.seen costs.1 in
-    let counted = c.enumerate-corners.ensures.runs priced.0 priced.0.seen priced.1 in
-    let read = c.iter.ensures.runs counted.1.0 counted.1.0.seen in
-    let xs = iter_rest counted.1.0.from in
-    let these : places xs ≡ ps = ap (λ s. places (iter_rest s)) counted.1.1 ∙ ap places c.iter.ensures.rest ∙ c.corners.ensures in
-    let all : length xs ≡ costs.0.len = sym (read.1 (counted.1.2.1 ∙ priced.2.0 ∙ costs.2)) ∙ counted.1.2.0.0 ∙ sym priced.2.1 in
-    cheapest_answer ps (pair c.args.weight.now) costs.0.len costs.0.at
-    (λ k h. priced_at xs ps c.args.weight.now k these (omega (arith, h, all)) _ (λ x y z. search rules) (counted.1.0.at k) (priced.0.at k) (costs.0.at k)
-    (read.3 k) (counted.1.2.0.2 k) (counted.0 k) ((priced.2.2 (λ a r q z. search rules)).1 k))
-    (λ k h. there_at _ _ (costs.0.reads k (record { least = pos 0; corner = 0 }) h)) c.min.result (sym (ap length these) ∙ length-map xs place ∙ all) costs.3
+    let w = pair c.args.weight.now in
+    let now = c.loop-corner in
+    let z = c.weighted_cost-least in
+    let costs = c.corners-cost-items.result.now in
+    let at : place c.cost-item.result ≡ nth ps now.corner =
+    ap place c.cost-item.is ∙ sym (nth_map place costs now.corner c.cost-item.result c.loop-corner-test.true) ∙ ap (λ qs. nth qs now.corner) c.corners-cost-items.ensures in
+    let e : to_z w64 (of_z w64 z.result) ≡ dot w (nth ps now.corner) = held z.result z.type_inv ∙ z.ensures ∙ ap (dot w) at in
+    elim c.match-best.branch [
+      | in-Some t ↦ let b = t.best-is in simp b (no_less ps w now.corner _ e now.best now.invariant t.in-Some.found t.in-Some.is (subst (λ (x : Cheapest). x.least ≤ℤ to_z w64 (of_z w64 z.result)) t.in-Some.found-is (t.below.ensures.no t.if-not-below.true)))
+      | in_default-2 t ↦ let b = t.best-is in simp b (less_found ps w now.corner _ e now.best now.invariant t.in-Some.found t.in-Some.is (subst (λ (x : Cheapest). to_z w64 (of_z w64 z.result) <ℤ x.least) t.in-Some.found-is (t.below.ensures.yes t.if-not-below.false)))
+      | in_default t ↦ let b = t.best-is in simp b (first_found ps w now.corner _ e now.best now.invariant t.in_default.is)
+    ]
